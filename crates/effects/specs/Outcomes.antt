@@ -8,8 +8,8 @@ use Rattle.meaning.specs.execution.Store.{Store}
 use Rattle.cells.specs.Cells.{cell_of}
 use Rattle.simulation.specs.Outcomes.{Outcome, failed, grown, made}
 use Rattle.effects.specs.declared.payment.Paid.{Paid}
-use Rattle.effects.specs.declared.payment.Refusal.{Refusal}
-use Rattle.effects.specs.declared.payment.Refusal.TheVariants.{NoFuel, NoMemory, Traps}
+use Rattle.effects.specs.declared.payment.Fault.{Fault}
+use Rattle.effects.specs.declared.payment.Fault.TheVariants.{NoFuel, NoMemory, Traps}
 
 -- The cost of an outcome. A trap costs the same as any instruction.
 abbrev pub cost_of : Outcome → ℕ
@@ -47,33 +47,33 @@ IsTrap (made cost store results) fuel other = ⊥
 IsTrap (grown cost store results) fuel other = ⊥
 IsTrap (failed trap) fuel other = (other ≡ trap) × (instruction_cost ≤ fuel)
 
--- The instruction was refused, for this reason.
-abbrev pub IsRefused : Outcome → (fuel : ℕ) → Refusal → Type 0
-IsRefused o fuel NoFuel = fuel < cost_of o
-IsRefused o fuel NoMemory = LacksMemory o fuel
-IsRefused o fuel (Traps trap) = IsTrap o fuel trap
+-- The instruction was not done, for this reason.
+abbrev pub HasFault : Outcome → (fuel : ℕ) → Fault → Type 0
+HasFault o fuel NoFuel = fuel < cost_of o
+HasFault o fuel NoMemory = LacksMemory o fuel
+HasFault o fuel (Traps trap) = IsTrap o fuel trap
 
--- The instruction was done, or refused with the store unchanged.
-abbrev pub Gives : Outcome → (old new : Store) → (fuel : ℕ) → Result Paid Refusal → Type 0
+-- The instruction was done, or not done and the store is unchanged.
+abbrev pub Gives : Outcome → (old new : Store) → (fuel : ℕ) → Result Paid Fault → Type 0
 Gives o old new fuel (Ok paid) = IsDone o new fuel paid
-Gives o old new fuel (Err refusal) = IsRefused o fuel refusal × (new ≡ old)
+Gives o old new fuel (Err fault) = HasFault o fuel fault × (new ≡ old)
 
 -- ---- how results are made
 
 -- This much of the fuel is left, or the fuel is less than the cost.
-abbrev pub IsLeft : (fuel cost : ℕ) → Result ℕ Refusal → Type 0
+abbrev pub IsLeft : (fuel cost : ℕ) → Result ℕ Fault → Type 0
 IsLeft fuel cost (Ok left) = (cost ≤ fuel) × (left ≡ fuel - cost)
-IsLeft fuel cost (Err refusal) = (fuel < cost) × (refusal ≡ NoFuel)
+IsLeft fuel cost (Err fault) = (fuel < cost) × (fault ≡ NoFuel)
 
 abbrev pub paid_with : (fuel : ℕ) → Option ℕ → Paid
 paid_with fuel result = record { fuel = fuel; result = result }
 
 -- The outcome of a write that was paid for, with this fuel left.
-abbrev pub after_write : {U : Type 0} → Result U Trap → (left : ℕ) → Result Paid Refusal
+abbrev pub after_write : {U : Type 0} → Result U Trap → (left : ℕ) → Result Paid Fault
 after_write (Ok u) left = Ok (paid_with left None)
 after_write (Err trap) left = Err (Traps trap)
 
 -- The outcome of a growth that was paid for, with this fuel left.
-abbrev pub after_growth : Result ℕ AllocError → (left : ℕ) → Result Paid Refusal
+abbrev pub after_growth : Result ℕ AllocError → (left : ℕ) → Result Paid Fault
 after_growth (Ok size) left = Ok (paid_with left (Some size))
 after_growth (Err error) left = Err NoMemory

@@ -12,7 +12,7 @@ mod tables;
 pub use accesses::{load_cell, load_i32, store_cell};
 pub use memories::{copy_memory, fill_memory, grow_memory, init_memory};
 pub use numeric::{compute_binary, compute_unary, low};
-pub use payment::{Paid, Refusal};
+pub use payment::{Fault, Paid};
 pub use segments::{drop_data, drop_elements};
 pub use tables::{
     copy_table, fill_table, get_entry, grow_table, init_table, measure_table, set_entry,

@@ -6,7 +6,7 @@ ghost use Rattle.store.specs.Contents.{Contents, store_with};
 ghost use Rattle.store.specs.State.{data_of, memory_of};
 ghost use Rattle.effects.specs.Outcomes.{Gives};
 
-use crate::payment::{Paid, Refusal, grown, pay, written};
+use crate::payment::{Fault, Paid, grown, pay, written};
 use bulkops::{
     mem_copy, mem_copy_cost, mem_fill, mem_fill_cost, mem_grow, mem_grow_cost, mem_init,
     mem_init_cost,
@@ -17,7 +17,7 @@ use store::State;
 /// the result is -1, for one unit of fuel (Execution, Memory Instructions, memory.grow).
 ///
 /// A memory has at most 2^16 pages, no more than its type allows, and no more than the state allows.
-pub fn grow_memory(state: &mut State, address: u32, pages: u32, fuel: u64) -> Result<Paid, Refusal>
+pub fn grow_memory(state: &mut State, address: u32, pages: u32, fuel: u64) -> Result<Paid, Fault>
     requires { address < length state.old.contents.memories }
     ensures { (code : Contents) → Gives
         (grown_memory (store_with code state.old) address (memory_of state.old address) pages
@@ -37,7 +37,7 @@ pub fn fill_memory(
     value: u32,
     count: u32,
     fuel: u64,
-) -> Result<Paid, Refusal>
+) -> Result<Paid, Fault>
     requires { address < length state.old.contents.memories }
     ensures { (code : Contents) → Gives
         (written_memory (store_with code state.old) count address (memory_of state.old address)
@@ -57,7 +57,7 @@ pub fn copy_memory(
     from: u32,
     count: u32,
     fuel: u64,
-) -> Result<Paid, Refusal>
+) -> Result<Paid, Fault>
     requires { address < length state.old.contents.memories }
     ensures { (code : Contents) → Gives
         (written_memory (store_with code state.old) count address (memory_of state.old address)
@@ -79,7 +79,7 @@ pub fn init_memory(
     from: u32,
     count: u32,
     fuel: u64,
-) -> Result<Paid, Refusal>
+) -> Result<Paid, Fault>
     requires there { address < length state.old.contents.memories }
     requires source { segment < length state.old.contents.datas }
     ensures { (code : Contents) → Gives

@@ -13,7 +13,7 @@ pub struct Paid {
 
 /// Why an instruction was not done. The store is unchanged.
 #[derive(Clone, Copy)]
-pub enum Refusal {
+pub enum Fault {
     /// It costs more than the fuel left.
     NoFuel,
     /// An allocation failed for a table or a memory that grows. It costs nothing.
@@ -22,17 +22,17 @@ pub enum Refusal {
     Traps(Trap),
 }
 
-pub(crate) fn pay(fuel: u64, cost: u64) -> Result<u64, Refusal>
+pub(crate) fn pay(fuel: u64, cost: u64) -> Result<u64, Fault>
     ensures { IsLeft fuel cost result }
 {
     if fuel < cost {
-        return Err(Refusal::NoFuel);
+        return Err(Fault::NoFuel);
     }
     Ok(fuel - cost)
 }
 
 // Returns the outcome of a write that was paid for.
-pub(crate) fn written(write: Result<(), Trap>, left: u64) -> Result<Paid, Refusal>
+pub(crate) fn written(write: Result<(), Trap>, left: u64) -> Result<Paid, Fault>
     ensures { result ≡ after_write write left }
 {
     match write {
@@ -40,12 +40,12 @@ pub(crate) fn written(write: Result<(), Trap>, left: u64) -> Result<Paid, Refusa
             fuel: left,
             result: None,
         }),
-        Err(trap) => Err(Refusal::Traps(trap)),
+        Err(trap) => Err(Fault::Traps(trap)),
     }
 }
 
 // Returns the outcome of a growth that was paid for.
-pub(crate) fn grown(growth: Result<u32, AllocError>, left: u64) -> Result<Paid, Refusal>
+pub(crate) fn grown(growth: Result<u32, AllocError>, left: u64) -> Result<Paid, Fault>
     ensures { result ≡ after_growth growth left }
 {
     match growth {
@@ -53,6 +53,6 @@ pub(crate) fn grown(growth: Result<u32, AllocError>, left: u64) -> Result<Paid, 
             fuel: left,
             result: Some(u64::from(size)),
         }),
-        Err(_) => Err(Refusal::NoMemory),
+        Err(_) => Err(Fault::NoMemory),
     }
 }

@@ -5,12 +5,12 @@ ghost use Rattle.store.specs.Contents.{Contents, store_with};
 ghost use Rattle.store.specs.State.{elements_of};
 ghost use Rattle.effects.specs.Outcomes.{Gives};
 
-use crate::payment::{Paid, Refusal, pay};
+use crate::payment::{Fault, Paid, pay};
 use bulkops::{data_drop, elem_drop};
 use store::State;
 
 /// Removes the references of an element segment, for one unit of fuel (Execution, Table Instructions, elem.drop).
-pub fn drop_elements(state: &mut State, segment: u32, fuel: u64) -> Result<Paid, Refusal>
+pub fn drop_elements(state: &mut State, segment: u32, fuel: u64) -> Result<Paid, Fault>
     requires { segment < length state.old.contents.elements }
     ensures { (code : Contents) → Gives
         (made 1 (with_elements (store_with code state.old) segment
@@ -26,7 +26,7 @@ pub fn drop_elements(state: &mut State, segment: u32, fuel: u64) -> Result<Paid,
 }
 
 /// Removes the bytes of a data segment, for one unit of fuel (Execution, Memory Instructions, data.drop).
-pub fn drop_data(state: &mut State, segment: u32, fuel: u64) -> Result<Paid, Refusal>
+pub fn drop_data(state: &mut State, segment: u32, fuel: u64) -> Result<Paid, Fault>
     requires { segment < length state.old.contents.datas }
     ensures { (code : Contents) → Gives
         (made 1 (with_data (store_with code state.old) segment (record { bytes = [] })) [])

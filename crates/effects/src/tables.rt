@@ -11,7 +11,7 @@ ghost use Rattle.store.specs.Contents.{Contents, store_with};
 ghost use Rattle.store.specs.State.{elements_of, table_of};
 ghost use Rattle.effects.specs.Outcomes.{Gives};
 
-use crate::payment::{Paid, Refusal, grown, pay, written};
+use crate::payment::{Fault, Paid, grown, pay, written};
 use bulkops::{
     table_copy, table_copy_cost, table_fill, table_fill_cost, table_get, table_grow,
     table_grow_cost, table_init, table_init_cost, table_set, table_size,
@@ -38,7 +38,7 @@ fn entry(state: &State, address: u32, cell: u64) -> Val
 
 /// Reads the entry of a table at an offset, for one unit of fuel, or traps if it is past the end (Execution, Table Instructions,
 /// table.get).
-pub fn get_entry(state: &State, address: u32, offset: u32, fuel: u64) -> Result<Paid, Refusal>
+pub fn get_entry(state: &State, address: u32, offset: u32, fuel: u64) -> Result<Paid, Fault>
     requires { address < length state.now.contents.tables }
     ensures { (code : Contents) → Gives
         (read_outcome (store_with code state.now)
@@ -51,7 +51,7 @@ pub fn get_entry(state: &State, address: u32, offset: u32, fuel: u64) -> Result<
             fuel: left,
             result: Some(cell_of(value)),
         }),
-        Err(trap) => Err(Refusal::Traps(trap)),
+        Err(trap) => Err(Fault::Traps(trap)),
     }
 }
 
@@ -63,7 +63,7 @@ pub fn set_entry(
     offset: u32,
     cell: u64,
     fuel: u64,
-) -> Result<Paid, Refusal>
+) -> Result<Paid, Fault>
     requires there { address < length state.old.contents.tables }
     requires cell { IsCellOf (entry_of (table_of state.old address)) cell }
     ensures { (code : Contents) → Gives
@@ -78,7 +78,7 @@ pub fn set_entry(
 }
 
 /// Returns the number of entries of a table, for one unit of fuel (Execution, Table Instructions, table.size).
-pub fn measure_table(state: &State, address: u32, fuel: u64) -> Result<Paid, Refusal>
+pub fn measure_table(state: &State, address: u32, fuel: u64) -> Result<Paid, Fault>
     requires { address < length state.now.contents.tables }
     ensures { (code : Contents) → Gives
         (made 1 (store_with code state.now)
@@ -102,7 +102,7 @@ pub fn grow_table(
     cell: u64,
     count: u32,
     fuel: u64,
-) -> Result<Paid, Refusal>
+) -> Result<Paid, Fault>
     requires there { address < length state.old.contents.tables }
     requires cell { IsCellOf (entry_of (table_of state.old address)) cell }
     ensures { (code : Contents) → Gives
@@ -126,7 +126,7 @@ pub fn fill_table(
     cell: u64,
     count: u32,
     fuel: u64,
-) -> Result<Paid, Refusal>
+) -> Result<Paid, Fault>
     requires there { address < length state.old.contents.tables }
     requires cell { IsCellOf (entry_of (table_of state.old address)) cell }
     ensures { (code : Contents) → Gives
@@ -151,7 +151,7 @@ pub fn copy_table(
     from: u32,
     count: u32,
     fuel: u64,
-) -> Result<Paid, Refusal>
+) -> Result<Paid, Fault>
     requires there { address < length state.old.contents.tables }
     requires source { other < length state.old.contents.tables }
     ensures { (code : Contents) → Gives
@@ -176,7 +176,7 @@ pub fn init_table(
     from: u32,
     count: u32,
     fuel: u64,
-) -> Result<Paid, Refusal>
+) -> Result<Paid, Fault>
     requires there { address < length state.old.contents.tables }
     requires source { segment < length state.old.contents.elements }
     ensures { (code : Contents) → Gives

@@ -30,7 +30,7 @@ use Rattle.interpreter.proofs.Cells.{frame-length}
 use Rattle.interpreter.proofs.Forms.{IsAt, inside, topmost, under}
 use Rattle.effects.specs.Outcomes.{AreInCell, Gives}
 use Rattle.effects.specs.declared.payment.Paid.{Paid}
-use Rattle.effects.specs.declared.payment.Refusal.{Refusal}
+use Rattle.effects.specs.declared.payment.Fault.{Fault}
 use Rattle.exec.specs.Instructions.{HasOperands, HasRoom, HasRoomFor, RestsBefore, instance_in, operand_of}
 use Rattle.exec.specs.Resting.{AtRest, machine_of, store_around}
 
@@ -151,31 +151,31 @@ module _ (bound : ℕ) (r : AtRest) (op : PlainOp) (u : Whole) (b : RestsBefore 
 
 module _ (m : Machine) (taken : ℕ) where
   -- In the place of operands.
-  pub room-taken : 1 ≤ taken → (below : ℕ) → below + taken ≤ m.top → m.top < length m.cells → (result : Result Paid Refusal) → HasRoomFor m taken result
+  pub room-taken : 1 ≤ taken → (below : ℕ) → below + taken ≤ m.top → m.top < length m.cells → (result : Result Paid Fault) → HasRoomFor m taken result
   room-taken some below low inside (Ok paid) = by paid.result
     where
       by : (result : Option ℕ) → HasRoom m taken result
       by None = tt
       by (Some cell) = omega (arith, some, low, inside)
-  room-taken some below low inside (Err refusal) = tt
+  room-taken some below low inside (Err fault) = tt
 
   -- If there is no result.
-  pub room-none : (cost : ℕ) (store old new : Store) (fuel : ℕ) (result : Result Paid Refusal) → Gives (made cost store []) old new fuel result → HasRoomFor m taken result
+  pub room-none : (cost : ℕ) (store old new : Store) (fuel : ℕ) (result : Result Paid Fault) → Gives (made cost store []) old new fuel result → HasRoomFor m taken result
   room-none cost store old new fuel (Ok paid) (is, left) = by paid.result is.result
     where
       by : (result : Option ℕ) → AreInCell [] result → HasRoom m taken result
       by None none = tt
       by (Some cell) wrong = absurd cc
-  room-none cost store old new fuel (Err refusal) gives = tt
+  room-none cost store old new fuel (Err fault) gives = tt
 
   -- Above all operands.
-  pub room-one : m.top + 1 < length m.cells → (result : Result Paid Refusal) → HasRoomFor m taken result
+  pub room-one : m.top + 1 < length m.cells → (result : Result Paid Fault) → HasRoomFor m taken result
   room-one inside (Ok paid) = by paid.result
     where
       by : (result : Option ℕ) → HasRoom m taken result
       by None = tt
       by (Some cell) = omega (arith, inside)
-  room-one inside (Err refusal) = tt
+  room-one inside (Err fault) = tt
 
 -- ---- what is ready
 

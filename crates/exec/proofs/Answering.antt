@@ -55,7 +55,7 @@ use Rattle.sidetable.specs.FlatModules.{operations_of}
 use Rattle.interpreter.specs.Layout.{put_back, without_scrap}
 use Rattle.interpreter.specs.Looping.{loop_at, machine_at}
 use Rattle.interpreter.specs.Running.{Machine, cells_in, height_in}
-use Rattle.interpreter.specs.Whole.{CallsHostNext, Loop, Reaches, RunsWhole, Whole, layers_of, whole}
+use Rattle.interpreter.specs.Whole.{CallsHostNext, Loop, LoopReaches, RunsWhole, Whole, layers_of, whole}
 use Rattle.interpreter.specs.Worlds.{Sees, World}
 use Rattle.interpreter.specs.declared.machine.CallKind.{CallKind}
 use Rattle.interpreter.specs.declared.machine.CallKind.TheVariants.{Nested, Tail}
@@ -66,7 +66,7 @@ use Rattle.interpreter.proofs.Calling.{reached-by}
 use Rattle.interpreter.proofs.Lifting.{layers-out, lifted-there}
 use Rattle.interpreter.proofs.ResultCells.{base-is, caller-held, held_values}
 use Rattle.interpreter.proofs.Resuming.{caller-room, caller-runs, frame-typed, ghost_resumed}
-use Rattle.exec.specs.Hosting.{ComesOver, ComesOverOrEnds, WaitsForHost, position_answered, with_results}
+use Rattle.exec.specs.Hosting.{ReachesWithHosts, ReachesWithHostsOrEnds, WaitsForHost, position_answered, with_results}
 use Rattle.exec.specs.Endings.{ending_of, first_memory, run_state}
 use Rattle.exec.specs.Resting.{AtRest, Rests, at_rest, fuel_left, loop_of, machine_of, store_around}
 use Rattle.exec.specs.declared.call.Call.{Call}
@@ -125,7 +125,7 @@ module _ (bound : ℕ) (r : AtRest) (w : Whole) (rests : Rests bound r w) (op : 
   many-are = ap (λ (ts : List ValType). length ts) params-are
 
   -- After labels were left, the call is next.
-  abbrev pub there : Reaches bound l w l
+  abbrev pub there : LoopReaches bound l w l
   there = lifted-there bound l w rests.runs (fuel_left r) (record { new = c.new; same = c.same; store = c.store; steps = c.steps (fuel_left r); runs = c.runs })
 
   instance-is : g.instance ≡ r.call.position.instance
@@ -428,7 +428,7 @@ module _ (bound : ℕ) (r : AtRest) (w : Whole) (rests : Rests bound r w) (op : 
       }
 
       comes-over : (call' : Call) → call'.cells.items ≡ cells' → call'.position ≡ position' → call'.callers ≡ r.call.callers
-          → ComesOver (IsHostStep host_type Answers) bound r hosts w (at_rest r.code state' call') hosts'
+          → ReachesWithHosts (IsHostStep host_type Answers) bound r hosts w (at_rest r.code state' call') hosts'
       comes-over call' cells_is position_is callers_is =
           let (other, sees) = seen-from r.code state' r.call.position.instance (rests.world.instance, instance-there) in record {
             new = new;
@@ -634,7 +634,7 @@ module _ (bound : ℕ) (r : AtRest) (w : Whole) (rests : Rests bound r w) (op : 
                 (subst (λ (code : Contents). IsLoaded code b.instance stands_by.instance) rests.sees.code stands_by.loaded)
 
             goes-back : LeadsOn (answered values (waiting_around (b ∷ bs))) → (call' : Call) → call'.cells.items ≡ cells_back → call'.position
-                ≡ position_back → call'.callers ≡ others → ComesOver (IsHostStep host_type Answers) bound r hosts w (at_rest r.code state' call') hosts'
+                ≡ position_back → call'.callers ≡ others → ReachesWithHosts (IsHostStep host_type Answers) bound r hosts w (at_rest r.code state' call') hosts'
             goes-back steps_all call' cells_is position_is callers_is =
                 let (other, sees) = seen-from r.code state' frame.instance (stands_by.instance, frame-there) in record {
                   new = new_back;
@@ -661,13 +661,13 @@ module _ (bound : ℕ) (r : AtRest) (w : Whole) (rests : Rests bound r w) (op : 
         comes-by : (bs : List Caller) → Stand bs → ConfigurationHasType then_store outermost (answered values (waiting_around bs)) w.results → LeadsOn (answered values (waiting_around bs))
             → (call' : Call) → call'.cells.items ≡ with_results held base values → call'.position
             ≡ position_answered frame r.call.position base values held → call'.callers ≡ others
-            → ComesOver (IsHostStep host_type Answers) bound r hosts w (at_rest r.code state' call') hosts'
+            → ReachesWithHosts (IsHostStep host_type Answers) bound r hosts w (at_rest r.code state' call') hosts'
         comes-by [] stand typed_all steps_all call' cells_is position_is callers_is = absurd stand
         comes-by (b ∷ bs) stand typed_all steps_all call' cells_is position_is callers_is = goes-back b bs stand typed_all steps_all call' cells_is position_is callers_is
 
         comes-back : (call' : Call) → call'.cells.items ≡ with_results held base values → call'.position
             ≡ position_answered frame r.call.position base values held → call'.callers ≡ others
-            → ComesOver (IsHostStep host_type Answers) bound r hosts w (at_rest r.code state' call') hosts'
+            → ReachesWithHosts (IsHostStep host_type Answers) bound r hosts w (at_rest r.code state' call') hosts'
         comes-back call' cells_is position_is callers_is = comes-by w.callers stand-so last-typed last-steps call' cells_is position_is callers_is
 
 -- ---- what a call waits for
@@ -748,7 +748,7 @@ module _ (bound : ℕ) (r : AtRest) (w : Whole) (address behind : ℕ) (number :
 
       pub comes-behind : (call' : Call) → call'.cells.items ≡ with_results (cells_held r) (behind - length t.params) values
           → call'.position ≡ position_answered (frame_waiting r.call.position) r.call.position (behind - length t.params) values (cells_held r) → call'.callers ≡ r.call.callers
-          → ComesOver HostsAnswer bound r hosts w (at_rest r.code state' call') hosts'
+          → ReachesWithHosts HostsAnswer bound r hosts w (at_rest r.code state' call') hosts'
       comes-behind =
           comes-over bound r w wait.rests wait.next.op address wait.next.function wait.next.height behind wait.next.lies wait.next.paid
           wait.next.calls.reached number t found wait.next.calls.counted wait.next.calls.goes_on wait.next.calls.step
@@ -770,7 +770,7 @@ module _ (bound : ℕ) (r : AtRest) (w : Whole) (address behind : ℕ) (number :
 
       pub comes-back-there : (frame : Frame) (others : List Frame) → r.call.callers ≡ frame ∷ others → (call' : Call) → call'.cells.items ≡ with_results (cells_held r) r.call.position.base values
           → call'.position ≡ position_answered frame r.call.position r.call.position.base values (cells_held r) → call'.callers ≡ others
-          → ComesOver HostsAnswer bound r hosts w (at_rest r.code state' call') hosts'
+          → ReachesWithHosts HostsAnswer bound r hosts w (at_rest r.code state' call') hosts'
       comes-back-there =
           comes-back bound r w wait.rests wait.next.op address wait.next.function wait.next.height behind wait.next.lies wait.next.paid
           wait.next.calls.reached number t found wait.next.calls.results wait.next.calls.step
@@ -778,8 +778,8 @@ module _ (bound : ℕ) (r : AtRest) (w : Whole) (address behind : ℕ) (number :
 
 -- A call returns from a host function, or ends the run there: it does one of the two.
 pub comes-or-ends : {H U : Type 0} (HostsAnswer : List H → ℕ → Option ℕ → List Val → Store → Answer → Store → List H → Type 0) (bound : ℕ) (r : AtRest) (hosts : List H) (w : Whole)
-    (r' : AtRest) (hosts' : List H) (result : Result U Outcome) → IfOk result (λ u. ComesOver HostsAnswer bound r hosts w r' hosts')
+    (r' : AtRest) (hosts' : List H) (result : Result U Outcome) → IfOk result (λ u. ReachesWithHosts HostsAnswer bound r hosts w r' hosts')
     → IfErr result (λ outcome. Run HostsAnswer bound no_frame (run_state (store_around r) hosts (fuel_left r)) (whole w) (ending_of outcome) (run_state (store_around r') hosts' (fuel_left r')))
-    → ComesOverOrEnds HostsAnswer bound r hosts w result r' hosts'
+    → ReachesWithHostsOrEnds HostsAnswer bound r hosts w result r' hosts'
 comes-or-ends HostsAnswer bound r hosts w r' hosts' (Ok u) comes ends = comes
 comes-or-ends HostsAnswer bound r hosts w r' hosts' (Err outcome) comes ends = ends

@@ -7,9 +7,9 @@ use Rattle.meaning.specs.execution.Store.{Store}
 use Rattle.cells.specs.Cells.{cell_of}
 use Rattle.simulation.specs.Outcomes.{IsMade}
 use Rattle.simulation.specs.Piles.{cells_of}
-use Rattle.simulation.specs.Runs.{Ghost, Leads}
+use Rattle.simulation.specs.Runs.{Ghost, FrameReaches}
 use Rattle.effects.specs.Outcomes.{AreInCell}
-use Rattle.interpreter.specs.Running.{GoesTo, Machine, RunsAt, cells_in, height_in}
+use Rattle.interpreter.specs.Running.{MachineReaches, Machine, RunsAt, cells_in, height_in}
 use Rattle.interpreter.specs.Worlds.{World, store_in}
 use Rattle.interpreter.proofs.Cells.{frame-length, popped-frame, to-top}
 use Rattle.exec.specs.Instructions.{HasRoom, operand_behind, top_behind}
@@ -64,10 +64,10 @@ module _ (w : World) (m : Machine) (g : Ghost) (r : RunsAt w m g) (taken : ℕ) 
 
   -- It continues there, in the store that the outcome has.
   pub goes-on : (cost : ℕ) (store' : Store) (results : List Val) (result : Option ℕ) → AreInCell results result → HasRoom m taken result → IsMade g cost store' (cells_in g m) m.place below results
-      → (w' : World) → store' ≡ store_in w' → (fuel left : ℕ) → cost ≤ fuel → left ≡ fuel - cost → GoesTo g m fuel w' (machine_behind result) left
+      → (w' : World) → store' ≡ store_in w' → (fuel left : ℕ) → cost ≤ fuel → left ≡ fuel - cost → MachineReaches g m fuel w' (machine_behind result) left
   goes-on cost store' results result are room made w' store_is fuel left enough left_is =
       let (cells, size, height, low') = behind results result are room in record {
-        leads = subst (λ (s : Store). Leads g fuel s (cells_in g (machine_behind result)) (m.place + 1) (height_in (machine_behind result)) left) store_is
+        leads = subst (λ (s : Store). FrameReaches g fuel s (cells_in g (machine_behind result)) (m.place + 1) (height_in (machine_behind result)) left) store_is
             (made (cells_in g (machine_behind result)) (m.place + 1) (height_in (machine_behind result)) fuel left cells size (omega arith) height enough left_is);
         low = low';
         size = spilled-size;

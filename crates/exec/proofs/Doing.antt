@@ -20,24 +20,24 @@ use Rattle.simulation.specs.Standing.{FrameCode}
 use Rattle.simulation.proofs.Frames.{steps-lifted}
 use Rattle.store.specs.Contents.{Contents, IsLoaded, store_with}
 use Rattle.store.specs.State.{StateContents}
-use Rattle.effects.specs.Outcomes.{IsDone, IsRefused, cost_of}
+use Rattle.effects.specs.Outcomes.{IsDone, HasFault, cost_of}
 use Rattle.effects.specs.declared.payment.Paid.{Paid}
-use Rattle.effects.specs.declared.payment.Refusal.{Refusal}
-use Rattle.effects.specs.declared.payment.Refusal.TheVariants as refusal
+use Rattle.effects.specs.declared.payment.Fault.{Fault}
+use Rattle.effects.specs.declared.payment.Fault.TheVariants as fault
 use Rattle.interpreter.specs.Callers.{CallersStand, layers_around}
 use Rattle.interpreter.specs.Looping.{loop_at}
-use Rattle.interpreter.specs.Running.{GoesTo, RunsAt, cells_in, height_in}
-use Rattle.interpreter.specs.Whole.{AsksNext, Loop, Reaches, RunsWhole, StopsBy, Whole, layers_of, state, whole}
+use Rattle.interpreter.specs.Running.{MachineReaches, RunsAt, cells_in, height_in}
+use Rattle.interpreter.specs.Whole.{AsksNext, Loop, LoopReaches, RunsWhole, StopsBy, Whole, layers_of, state, whole}
 use Rattle.interpreter.specs.Worlds.{Sees, World, store_in}
 use Rattle.interpreter.specs.declared.machine.Frame.{Frame as WaitingFrame}
 use Rattle.interpreter.specs.declared.machine.Position.{Position}
 use Rattle.interpreter.specs.declared.machine.Stop.TheVariants as stop
 use Rattle.interpreter.proofs.Lifting.{fails-whole, lacks-whole, layers-out, lifted-there, runs-then, steps-typed, with_ghost}
 use Rattle.interpreter.proofs.Forms.{inside}
-use Rattle.interpreter.proofs.Turning.{place-fits}
+use Rattle.interpreter.proofs.Executing.{place-fits}
 use Rattle.interpreter.proofs.Worlds.{flat-seen}
-use Rattle.exec.specs.Instructions.{Acts, GoesOn, HasRoom, RestsBefore, RestsSomeBefore, cells_behind, operand_behind, position_behind, top_behind}
-use Rattle.exec.specs.Resting.{AtRest, Comes, LacksMemory, Rests, StopsAtRest, at_rest, fuel_left, loop_of, machine_of, store_around}
+use Rattle.exec.specs.Instructions.{HasResult, ContinuesAfter, HasRoom, RestsBefore, RestsSomeBefore, cells_behind, operand_behind, position_behind, top_behind}
+use Rattle.exec.specs.Resting.{AtRest, CallReaches, LacksMemory, Rests, StopsAtRest, at_rest, fuel_left, loop_of, machine_of, store_around}
 use Rattle.exec.specs.declared.call.Call.{Call}
 use Rattle.exec.proofs.Behind.{goes-on, machine_behind}
 use Rattle.exec.proofs.Seeing.{seen-from}
@@ -82,11 +82,11 @@ module _ (bound : ℕ) (r : AtRest) (u : Whole) (rests : Rests bound r u) (state
 
   module _ (cells' : List ℕ) (place top operand left : ℕ)
       (goes : (w' : World) → Sees r.code (store_with r.code state') number w'
-      → GoesTo u.ghost (machine_of r) (fuel_left r) w' (record (machine_of r) { cells = cells'; place = place; top = top; operand = operand }) left) where
+      → MachineReaches u.ghost (machine_of r) (fuel_left r) w' (record (machine_of r) { cells = cells'; place = place; top = top; operand = operand }) left) where
     abbrev position : Position
     position = record r.call.position { place = place; top = top; operand = operand; fuel = left }
 
-    pub went : call'.cells.items ≡ cells' → call'.callers ≡ r.call.callers → call'.position ≡ position → Comes bound r u there left
+    pub went : call'.cells.items ≡ cells' → call'.callers ≡ r.call.callers → call'.position ≡ position → CallReaches bound r u there left
     went cells_are callers_are position_is =
         let (w', sees) = seen-from r.code state' number (rests.world.instance, number-there) in
         let led = goes w' sees in
@@ -131,7 +131,7 @@ module _ (bound : ℕ) (r : AtRest) (u : Whole) (rests : Rests bound r u) (state
     abbrev its_loop : Loop
     its_loop = loop_of rests.world r
 
-    abbrev stayed : (fuel : ℕ) → Reaches bound its_loop u (record its_loop { fuel = fuel }) → Comes bound r u there fuel
+    abbrev stayed : (fuel : ℕ) → LoopReaches bound its_loop u (record its_loop { fuel = fuel }) → CallReaches bound r u there fuel
     stayed fuel t =
         let sees : Sees r.code (store_with r.code state') number rests.world =
         record { store = rests.sees.store ∙ sym same; code = rests.sees.code; seen_from = rests.sees.seen_from; instance = rests.sees.instance } in
@@ -156,7 +156,8 @@ module _ (bound : ℕ) (r : AtRest) (u : Whole) (rests : Rests bound r u) (state
         let (t, dear) = lacks-whole bound its_loop u rests.runs lacks in
         let dear' = subst (λ (s : Store). fuel_left r < price (next s no_frame (whole t.new))) (rests.sees.store ∙ sym same) dear in
         let now : fuel_left r ≡ fuel_left there + 0 = omega (arith, left_is, ap (λ (p : Position). p.fuel) position_is) in
-        let both = subst (λ (n : ℕ). (c : Comes bound r u there n) × StopsBy bound stop.NoFuel c.rests.world (store_around there) n (machine_of there) c.new) now (stayed (fuel_left r) t, dear') in
+        let both = subst (λ (n : ℕ). (c : CallReaches bound r u there n) × StopsBy bound stop.NoFuel c.rests.world (store_around there) n (machine_of there) c.new) now
+        (stayed (fuel_left r) t, dear') in
         record { there = both.0; by = both.1 }
 
     -- The call traps.
@@ -167,7 +168,7 @@ module _ (bound : ℕ) (r : AtRest) (u : Whole) (rests : Rests bound r u) (state
         let (t, wrong) = fails-whole bound its_loop u rests.runs left trap fails in
         let wrong' = subst (λ (s : Store). next s no_frame (whole t.new) ≡ Traps 1 trap) (rests.sees.store ∙ sym same) wrong in
         let now : left + 1 ≡ fuel_left there + 1 = ap (λ (p : Position). p.fuel + 1) (sym position_is) in
-        let both = subst (λ (n : ℕ). (c : Comes bound r u there n)
+        let both = subst (λ (n : ℕ). (c : CallReaches bound r u there n)
         × StopsBy bound (stop.Traps trap) c.rests.world (store_around there) n (machine_of there) c.new) now (stayed (left + 1) t, (wrong', omega arith)) in
         record { there = both.0; by = both.1 }
 
@@ -190,7 +191,7 @@ module _ (bound : ℕ) (r : AtRest) (u : Whole) (rests : Rests bound r u) (state
           within = subst (λ (n : Next). IsWithinBound bound (depth (whole t.new)) n) (sym grows) tt;
           enough = subst (λ (n : Next). price n ≤ fuel_left r) (sym grows) enough;
         } in
-        let both = subst (λ (n : ℕ). (c : Comes bound r u there n) × AsksNext bound (store_around there) n c.new) now (stayed (fuel_left r) t, asked) in
+        let both = subst (λ (n : ℕ). (c : CallReaches bound r u there n) × AsksNext bound (store_around there) n c.new) now (stayed (fuel_left r) t, asked) in
         record { there = both.0; by = both.1 }
       where
         left_is_now : left ≡ fuel_left r → fuel_left r ≡ fuel_left there
@@ -199,10 +200,10 @@ module _ (bound : ℕ) (r : AtRest) (u : Whole) (rests : Rests bound r u) (state
 -- ---- the result of an instruction
 
 module _ (r : AtRest) (op : PlainOp) (taken : ℕ) (state' : StateContents) where
-  abbrev Acted : Result Paid Refusal → Type 0
-  Acted result = Acts r op taken (store_with r.code state') result
+  abbrev Acted : Result Paid Fault → Type 0
+  Acted result = HasResult r op taken (store_with r.code state') result
 
-  pub enough : (result : Result Paid Refusal) → RestsSomeBefore r op → Acted result → taken ≤ r.call.position.top
+  pub enough : (result : Result Paid Fault) → RestsSomeBefore r op → Acted result → taken ≤ r.call.position.top
   enough result (bound, u, b) acts = omega (arith, (acts bound u b).low)
 
   module _ (some : RestsSomeBefore r op) where
@@ -220,7 +221,7 @@ module _ (r : AtRest) (op : PlainOp) (taken : ℕ) (state' : StateContents) wher
           (height_in (machine_of r) - taken) o → (low : (machine_of r).base + u.ghost.code.locals + taken ≤ (machine_of r).top)
           → HasRoom (machine_of r) taken paid.result
           → IsDone o (store_with r.code state') (fuel_left r) paid → (w' : World) → Sees r.code (store_with r.code state') r.call.position.instance w'
-          → GoesTo u.ghost (machine_of r) (fuel_left r) w' (machine_behind b.rests.world (machine_of r) u.ghost b.rests.runs.runs taken low paid.result) paid.fuel
+          → MachineReaches u.ghost (machine_of r) (fuel_left r) w' (machine_behind b.rests.world (machine_of r) u.ghost b.rests.runs.runs taken low paid.result) paid.fuel
       its-goes (made cost store results) (makes, dear) low room (is, store_is) w' sees =
           goes-on b.rests.world (machine_of r) u.ghost b.rests.runs.runs taken low cost store results paid.result is.result room makes w'
           (sym store_is ∙ sym sees.store) (fuel_left r) paid.fuel is.enough is.left
@@ -235,12 +236,12 @@ module _ (r : AtRest) (op : PlainOp) (taken : ℕ) (state' : StateContents) wher
       its-falls (failed trap) wrong = absurd wrong
 
     pub did : RestsSomeBefore r op → call'.cells.items ≡ cells_behind r.call → call'.callers ≡ r.call.callers → call'.position
-        ≡ position_behind r.call taken paid → GoesOn r op (at_rest r.code state' call')
+        ≡ position_behind r.call taken paid → ContinuesAfter r op (at_rest r.code state' call')
     did (bound, u, b) cells_are callers_are position_is =
         let fuel_is : call'.position.fuel ≡ paid.fuel = ap (λ (p : Position). p.fuel) position_is in record {
           comes = λ bound u b.
               let has = acts bound u b in
-              subst (λ (n : ℕ). Comes bound r u (at_rest r.code state' call') n) (sym fuel_is)
+              subst (λ (n : ℕ). CallReaches bound r u (at_rest r.code state' call') n) (sym fuel_is)
               (went bound r u b.rests state' call' (cells_behind r.call) (r.call.position.place + 1)
               (top_behind r.call.position.top taken paid.result) (operand_behind (cells_behind r.call) r.call.position.top taken paid.result) paid.fuel
               (its-goes bound u b has.outcome has.has has.low has.room has.gives) cells_are callers_are position_is);
@@ -260,21 +261,21 @@ module _ (r : AtRest) (op : PlainOp) (taken : ℕ) (state' : StateContents) wher
     its-lack (grown cost store results) (makes, dear, asks) less = dear (fuel_left r) less
     its-lack (failed trap) (traps, dear) less = dear (fuel_left r) less
 
-    pub refused-fuel : Acted (Err refusal.NoFuel) → StopsAtRest bound r u stop.NoFuel (at_rest r.code state' r.call)
+    pub refused-fuel : Acted (Err fault.NoFuel) → StopsAtRest bound r u stop.NoFuel (at_rest r.code state' r.call)
     refused-fuel acts =
         let has = acts bound u b in
         lacks-fuel bound r u b.rests state' r.call has.gives.1 refl refl (fuel_left r) refl refl (its-lack has.outcome has.has has.gives.0)
 
-    its-growth : (same : store_with r.code state' ≡ store_around r) (o : Outcome) → Has o → IsRefused o (fuel_left r) refusal.NoMemory → LacksMemory bound r u (at_rest r.code state' r.call)
+    its-growth : (same : store_with r.code state' ≡ store_around r) (o : Outcome) → Has o → HasFault o (fuel_left r) fault.NoMemory → LacksMemory bound r u (at_rest r.code state' r.call)
     its-growth same (made cost store results) has wrong = absurd wrong
     its-growth same (grown cost store results) (makes, dear, asks) paid = lacks-memory bound r u b.rests state' r.call same refl refl (fuel_left r) refl refl cost paid (asks (fuel_left r))
     its-growth same (failed trap) has wrong = absurd wrong
 
-    pub refused-memory : Acted (Err refusal.NoMemory) → LacksMemory bound r u (at_rest r.code state' r.call)
+    pub refused-memory : Acted (Err fault.NoMemory) → LacksMemory bound r u (at_rest r.code state' r.call)
     refused-memory acts = let has = acts bound u b in its-growth has.gives.1 has.outcome has.has has.gives.0
 
     module _ (trap : Trap) where
-      its-trap : (same : store_with r.code state' ≡ store_around r) (o : Outcome) → Has o → IsRefused o (fuel_left r) (refusal.Traps trap)
+      its-trap : (same : store_with r.code state' ≡ store_around r) (o : Outcome) → Has o → HasFault o (fuel_left r) (fault.Traps trap)
           → (call' : Call) → call'.cells.items ≡ r.call.cells.items → call'.callers ≡ r.call.callers → call'.position
           ≡ record r.call.position { fuel = fuel_left r - 1 }
           → StopsAtRest bound r u (stop.Traps trap) (at_rest r.code state' call')
@@ -285,15 +286,15 @@ module _ (r : AtRest) (op : PlainOp) (taken : ℕ) (state' : StateContents) wher
           (subst (λ (t : Trap). Fails u.ghost (fuel_left r) (cells_in u.ghost (machine_of r)) (machine_of r).place (height_in (machine_of r))
           (fuel_left r - 1) t) (sym is) (fails (fuel_left r) (fuel_left r - 1) paid refl))
 
-      pub refused-trap : Acted (Err (refusal.Traps trap)) → (call' : Call) → call'.cells.items ≡ r.call.cells.items → call'.callers ≡ r.call.callers
+      pub refused-trap : Acted (Err (fault.Traps trap)) → (call' : Call) → call'.cells.items ≡ r.call.cells.items → call'.callers ≡ r.call.callers
           → call'.position ≡ record r.call.position { fuel = fuel_left r - 1 } → StopsAtRest bound r u (stop.Traps trap) (at_rest r.code state' call')
       refused-trap acts = let has = acts bound u b in its-trap has.gives.1 has.outcome has.has has.gives.0
 
   -- There is fuel for a trap.
-  pub some-fuel : (trap : Trap) → RestsSomeBefore r op → Acted (Err (refusal.Traps trap)) → 1 ≤ fuel_left r
+  pub some-fuel : (trap : Trap) → RestsSomeBefore r op → Acted (Err (fault.Traps trap)) → 1 ≤ fuel_left r
   some-fuel trap (bound, u, b) acts = let has = acts bound u b in by has.outcome has.gives.0
     where
-      by : (o : Outcome) → IsRefused o (fuel_left r) (refusal.Traps trap) → 1 ≤ fuel_left r
+      by : (o : Outcome) → HasFault o (fuel_left r) (fault.Traps trap) → 1 ≤ fuel_left r
       by (made cost store results) wrong = absurd wrong
       by (grown cost store results) wrong = absurd wrong
       by (failed other) (is, paid) = paid

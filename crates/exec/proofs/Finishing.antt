@@ -16,17 +16,17 @@ use Rattle.interpreter.specs.Whole.{CallsHostNext, HasResults, OpensNext, Whole,
 use Rattle.interpreter.specs.declared.machine.CallKind.{CallKind}
 use Rattle.interpreter.specs.declared.machine.Stop.{Stop}
 use Rattle.interpreter.specs.declared.machine.Stop.TheVariants as stop
-use Rattle.exec.specs.Hosting.{ComesOver, RestsWith, WaitsForHost}
+use Rattle.exec.specs.Hosting.{ReachesWithHosts, RestsWith, WaitsForHost}
 use Rattle.exec.specs.Endings.{run_state}
-use Rattle.exec.specs.Resting.{AtRest, Comes, Concludes, Ends, LacksMemory, StopsAtRest, fuel_left, machine_of, store_around}
+use Rattle.exec.specs.Resting.{AtRest, CallReaches, CallStops, Ends, LacksMemory, StopsAtRest, fuel_left, machine_of, store_around}
 
 module _ {H : Type 0} (HostStep : List H → ℕ → Option ℕ → List Val → Store → Answer → Store → List H → Type 0) (bound : ℕ) where
   -- The call has arrived where it starts.
-  pub over-first : (r : AtRest) (hosts : List H) (w : Whole) (types : List ValType) → RestsWith bound r w types → ComesOver HostStep bound r hosts w r hosts
+  pub over-first : (r : AtRest) (hosts : List H) (w : Whole) (types : List ValType) → RestsWith bound r w types → ReachesWithHosts HostStep bound r hosts w r hosts
   over-first r hosts w types (rests, is) = record { new = w; results = refl; steps = none; rests = rests }
 
-  abbrev pub over-then : (r r' r'' : AtRest) (hosts hosts' hosts'' : List H) (w : Whole) (first : ComesOver HostStep bound r hosts w r' hosts')
-      → ComesOver HostStep bound r' hosts' first.new r'' hosts'' → ComesOver HostStep bound r hosts w r'' hosts''
+  abbrev pub over-then : (r r' r'' : AtRest) (hosts hosts' hosts'' : List H) (w : Whole) (first : ReachesWithHosts HostStep bound r hosts w r' hosts')
+      → ReachesWithHosts HostStep bound r' hosts' first.new r'' hosts'' → ReachesWithHosts HostStep bound r hosts w r'' hosts''
   over-then r r' r'' hosts hosts' hosts'' w first second = record {
     new = second.new;
     results = second.results ∙ first.results;
@@ -36,7 +36,7 @@ module _ {H : Type 0} (HostStep : List H → ℕ → Option ℕ → List Val →
 
   module _ (r r' : AtRest) (hosts : List H) (u : Whole) where
     -- Code of modules has the same steps over any host functions.
-    pub led : (left : ℕ) (there : Comes bound r u r' left)
+    pub led : (left : ℕ) (there : CallReaches bound r u r' left)
         → Steps HostStep bound no_frame (run_state (store_around r) hosts (fuel_left r)) (whole u) (run_state (store_around r') hosts left) (whole there.new)
     led left there = steps-over HostStep hosts bound no_frame there.steps
 
@@ -51,7 +51,7 @@ module _ {H : Type 0} (HostStep : List H → ℕ → Option ℕ → List Val →
 
     -- The call stops.
     module _ (s : Stop) (stops : StopsAtRest bound r u s r') where
-      abbrev there : Comes bound r u r' (fuel_left r' + paid_for s)
+      abbrev there : CallReaches bound r u r' (fuel_left r' + paid_for s)
       there = stops.there
 
       abbrev at : State H
@@ -79,7 +79,7 @@ module _ {H : Type 0} (HostStep : List H → ℕ → Option ℕ → List Val →
         stops-deep o deep = Steps-run HostStep bound no_frame (led (fuel_left r' + paid_for s) there) (end (no_depth o.opens o.paid deep refl (same-fuel unpaid)))
 
         -- The call has arrived where a host function is called.
-        abbrev pub stops-over : ComesOver HostStep bound r hosts u r' hosts
+        abbrev pub stops-over : ReachesWithHosts HostStep bound r hosts u r' hosts
         stops-over = record {
           new = there.new;
           results = there.results;
@@ -101,7 +101,7 @@ module _ {H : Type 0} (HostStep : List H → ℕ → Option ℕ → List Val →
 -- The call has arrived at another place, from whatever rests at the start.
 pub record CameOver {H : Type 0} (HostStep : List H → ℕ → Option ℕ → List Val → Store → Answer → Store → List H → Type 0)
     (bound : ℕ) (r : AtRest) (hosts : List H) (types : List ValType) (r' : AtRest) (hosts' : List H) : Type 0 where
-  pub from : (w : Whole) → RestsWith bound r w types → ComesOver HostStep bound r hosts w r' hosts'
+  pub from : (w : Whole) → RestsWith bound r w types → ReachesWithHosts HostStep bound r hosts w r' hosts'
 
 abbrev RunsSo : {H : Type 0} (HostStep : List H → ℕ → Option ℕ → List Val → Store → Answer → Store → List H → Type 0)
     → (bound : ℕ) → (r : AtRest) → (hosts : List H) → Whole → Ending → (r' : AtRest) → (hosts' : List H) → Type 0
@@ -112,21 +112,21 @@ module _ {H : Type 0} {HostStep : List H → ℕ → Option ℕ → List Val →
   came-over-first = record { from = λ w is. over-first HostStep bound r hosts w types is }
 
   module _ {r' : AtRest} {hosts' : List H} (came : CameOver HostStep bound r hosts types r' hosts') {w : Whole} (is : RestsWith bound r w types) where
-    abbrev first : ComesOver HostStep bound r hosts w r' hosts'
+    abbrev first : ReachesWithHosts HostStep bound r hosts w r' hosts'
     first = came.from w is
 
     module _ {r'' : AtRest} where
-      pub ends-so : (c : Concludes bound r' stop.Over r'') (results : List Val) → results ≡ reverse (c first.new first.rests).values → RunsSo HostStep bound r hosts w (WithValues results) r'' hosts'
+      pub ends-so : (c : CallStops bound r' stop.Over r'') (results : List Val) → results ≡ reverse (c first.new first.rests).values → RunsSo HostStep bound r hosts w (WithValues results) r'' hosts'
       ends-so c results are = Steps-run HostStep bound no_frame first.steps (over-ends HostStep bound r' r'' hosts' first.new (c first.new first.rests) results are)
 
-      over-typed : (c : Concludes bound r' stop.Over r'') → HasResults (store_around r'') (machine_of r'') types (c first.new first.rests).values
+      over-typed : (c : CallStops bound r' stop.Over r'') → HasResults (store_around r'') (machine_of r'') types (c first.new first.rests).values
       over-typed c = let e = c first.new first.rests in subst (λ (ts : List ValType). HasResults (store_around r'') (machine_of r'') ts e.values) (first.results ∙ is.1) e.results
 
-      pub some-results : Concludes bound r' stop.Over r'' → (s : Store) × (values : List Val) × HasResults s (machine_of r'') types values
+      pub some-results : CallStops bound r' stop.Over r'' → (s : Store) × (values : List Val) × HasResults s (machine_of r'') types values
       some-results c = (store_around r'', (c first.new first.rests).values, over-typed c)
 
       -- With the results, as they are read, in the place of that many values.
-      pub ends-taken : (c : Concludes bound r' stop.Over r'') (values old : List Val) (n : ℕ) (results : List Val) (fuel : ℕ) → length values ≡ n
+      pub ends-taken : (c : CallStops bound r' stop.Over r'') (values old : List Val) (n : ℕ) (results : List Val) (fuel : ℕ) → length values ≡ n
           → ((s : Store) (given : List Val) → HasResults s (machine_of r'') types given → values ≡ reverse given)
           → results ≡ take n (values ++ drop (length values) old) → fuel ≡ fuel_left r''
           → Run HostStep bound no_frame (run_state (store_around r) hosts (fuel_left r)) (whole w) (WithValues results)
@@ -135,21 +135,21 @@ module _ {H : Type 0} {HostStep : List H → ℕ → Option ℕ → List Val →
           subst (λ (k : ℕ). Run HostStep bound no_frame (run_state (store_around r) hosts (fuel_left r)) (whole w) (WithValues results) (run_state (store_around r'') hosts' k)) (sym left)
           (ends-so c results (taken ∙ take_at values (drop (length values) old) n size ∙ reads (store_around r'') (c first.new first.rests).values (over-typed c)))
 
-      pub traps-so : (trap : Trap) → Concludes bound r' (stop.Traps trap) r'' → RunsSo HostStep bound r hosts w (WithTrap trap) r'' hosts'
+      pub traps-so : (trap : Trap) → CallStops bound r' (stop.Traps trap) r'' → RunsSo HostStep bound r hosts w (WithTrap trap) r'' hosts'
       traps-so trap c = let stops = c first.new first.rests in
           Steps-run HostStep bound no_frame first.steps (stops-trapped HostStep bound r' r'' hosts' first.new (stop.Traps trap) stops trap stops.by.0 refl)
 
-      pub dear-so : Concludes bound r' stop.NoFuel r'' → RunsSo HostStep bound r hosts w OutOfFuel r'' hosts'
+      pub dear-so : CallStops bound r' stop.NoFuel r'' → RunsSo HostStep bound r hosts w OutOfFuel r'' hosts'
       dear-so c = let stops = c first.new first.rests in Steps-run HostStep bound no_frame first.steps (stops-dear HostStep bound r' r'' hosts' first.new stop.NoFuel stops refl stops.by)
 
-      pub deep-so : Concludes bound r' stop.NoDepth r'' → RunsSo HostStep bound r hosts w OutOfDepth r'' hosts'
+      pub deep-so : CallStops bound r' stop.NoDepth r'' → RunsSo HostStep bound r hosts w OutOfDepth r'' hosts'
       deep-so c = let stops = c first.new first.rests in Steps-run HostStep bound no_frame first.steps (stops-deep HostStep bound r' r'' hosts' first.new stop.NoDepth stops refl stops.by.0 stops.by.1)
 
-      pub lacks-so : Concludes bound r' stop.NoMemory r'' → RunsSo HostStep bound r hosts w OutOfMemory r'' hosts'
+      pub lacks-so : CallStops bound r' stop.NoMemory r'' → RunsSo HostStep bound r hosts w OutOfMemory r'' hosts'
       lacks-so c = Steps-run HostStep bound no_frame first.steps (over-lacks HostStep bound r' r'' hosts' first.new (c first.new first.rests))
 
       -- A host function is called.
-      module _ {kind : CallKind} {address behind : ℕ} (c : Concludes bound r' (stop.CallsHost kind address behind) r'') where
+      module _ {kind : CallKind} {address behind : ℕ} (c : CallStops bound r' (stop.CallsHost kind address behind) r'') where
         abbrev stops : StopsAtRest bound r' first.new (stop.CallsHost kind address behind) r''
         stops = c first.new first.rests
 
@@ -159,7 +159,7 @@ module _ {H : Type 0} {HostStep : List H → ℕ → Option ℕ → List Val →
         pub waits-so : WaitsForHost bound r'' waiting kind address behind
         waits-so = stops-waiting HostStep bound r' r'' hosts' first.new (stop.CallsHost kind address behind) stops refl kind address behind stops.by
 
-        abbrev pub called : ComesOver HostStep bound r hosts w r'' hosts'
+        abbrev pub called : ReachesWithHosts HostStep bound r hosts w r'' hosts'
         called = over-then HostStep bound r r' r'' hosts hosts' hosts' w first (stops-over HostStep bound r' r'' hosts' first.new (stop.CallsHost kind address behind) stops refl)
 
         pub ended-so : (r3 : AtRest) (hosts3 : List H) (ending : Ending)
@@ -174,8 +174,8 @@ module _ {H : Type 0} {HostStep : List H → ℕ → Option ℕ → List Val →
         called-fuel = Steps-fuel HostStep bound no_frame (stops-over HostStep bound r' r'' hosts' first.new (stop.CallsHost kind address behind) stops refl).steps
 
   pub came-answered : {r' r'' r3 : AtRest} {hosts' hosts3 : List H} → (came : CameOver HostStep bound r hosts types r' hosts')
-      → {kind : CallKind} {address behind : ℕ} → (c : Concludes bound r' (stop.CallsHost kind address behind) r'')
-      → ((u : Whole) → WaitsForHost bound r'' u kind address behind → ComesOver HostStep bound r'' hosts' u r3 hosts3) → CameOver HostStep bound r hosts types r3 hosts3
+      → {kind : CallKind} {address behind : ℕ} → (c : CallStops bound r' (stop.CallsHost kind address behind) r'')
+      → ((u : Whole) → WaitsForHost bound r'' u kind address behind → ReachesWithHosts HostStep bound r'' hosts' u r3 hosts3) → CameOver HostStep bound r hosts types r3 hosts3
   came-answered {r'} {r''} {r3} {hosts'} {hosts3} came c answered = record {
     from = λ w is. over-then HostStep bound r r'' r3 hosts hosts' hosts3 w (called came is c) (answered (waiting came is c) (waits-so came is c));
   }

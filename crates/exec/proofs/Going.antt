@@ -17,9 +17,9 @@ use Rattle.sidetable.specs.declared.side_tables.SideTables.{SideTables}
 use Rattle.store.specs.Contents.{Contents}
 use Rattle.store.specs.declared.instances.Instance.{Instance}
 use Rattle.interpreter.specs.Looping.{loop_at}
-use Rattle.interpreter.specs.Turns.{IsLeft, StandsThere}
-use Rattle.exec.specs.Instructions.{GoesOn, RestsBefore, RestsSomeBefore, StopsFor}
-use Rattle.exec.specs.Resting.{AtRest, Comes, Concludes, ConcludesFrom, LacksMemory, Rests, RestsSome, RunsFrom, RunsTo, StopsAtRest, fuel_left, left_of, loop_of, machine_of, store_around}
+use Rattle.interpreter.specs.Operations.{IsLeft, StandsThere}
+use Rattle.exec.specs.Instructions.{ContinuesAfter, RestsBefore, RestsSomeBefore, StopsFor}
+use Rattle.exec.specs.Resting.{AtRest, CallReaches, CallStops, CallStopsFrom, LacksMemory, Rests, RestsSome, RunsFrom, RunsTo, StopsAtRest, fuel_left, left_of, loop_of, machine_of, store_around}
 use Rattle.interpreter.specs.Whole.{AsksNext, HasResults, RunsWhole, Whole, left_at, paid_for}
 use Rattle.interpreter.specs.Worlds.{Sees, World}
 use Rattle.interpreter.specs.declared.machine.Frame.{Frame}
@@ -31,7 +31,7 @@ use Rattle.exec.proofs.Resting.{rests-valid}
 
 -- A call has arrived at another place.
 pub record Came (bound : ℕ) (r r' : AtRest) : Type 0 where
-  pub from : (u : Whole) → Rests bound r u → Comes bound r u r' (fuel_left r')
+  pub from : (u : Whole) → Rests bound r u → CallReaches bound r u r' (fuel_left r')
 
 -- The call with other cells.
 abbrev pub with_cells : AtRest → Vec ℕ → AtRest
@@ -73,7 +73,7 @@ module _ (bound : ℕ) where
   pub some-cells : (r : AtRest) → RestsSome bound r → 1 ≤ length r.call.cells.items
   some-cells r (u, rests) = let within = inside rests.world (machine_of r) u.ghost rests.runs.runs in omega (arith, within)
 
-  abbrev comes-then : (r r' r'' : AtRest) (u : Whole) (left : ℕ) (first : Comes bound r u r' (fuel_left r')) → Comes bound r' first.new r'' left → Comes bound r u r'' left
+  abbrev comes-then : (r r' r'' : AtRest) (u : Whole) (left : ℕ) (first : CallReaches bound r u r' (fuel_left r')) → CallReaches bound r' first.new r'' left → CallReaches bound r u r'' left
   comes-then r r' r'' u left first second = record {
     new = second.new;
     results = second.results ∙ first.results;
@@ -81,14 +81,14 @@ module _ (bound : ℕ) where
     rests = second.rests;
   }
 
-  abbrev stops-later : (r r' r'' : AtRest) (u : Whole) (s : Stop) (first : Comes bound r u r' (fuel_left r')) → StopsAtRest bound r' first.new s r'' → StopsAtRest bound r u s r''
+  abbrev stops-later : (r r' r'' : AtRest) (u : Whole) (s : Stop) (first : CallReaches bound r u r' (fuel_left r')) → StopsAtRest bound r' first.new s r'' → StopsAtRest bound r u s r''
   stops-later r r' r'' u s first last = record { there = comes-then r r' r'' u (fuel_left r'' + paid_for s) first last.there; by = last.by }
 
   -- The call asks for memory.
   asks-for-memory : (r r' : AtRest) (u : Whole) → StopsAtRest bound r u stop.NoMemory r' → LacksMemory bound r u r'
   asks-for-memory r r' u stops =
       let same : fuel_left r' + 0 ≡ fuel_left r' = omega arith in
-      let both = subst (λ (left : ℕ). (c : Comes bound r u r' left) × AsksNext bound (store_around r') left c.new) same (stops.there, stops.by) in
+      let both = subst (λ (left : ℕ). (c : CallReaches bound r u r' left) × AsksNext bound (store_around r') left c.new) same (stops.there, stops.by) in
       record { there = both.0; by = both.1 }
 
   module _ (r r' r'' : AtRest) (came : Came bound r r') where
@@ -98,7 +98,7 @@ module _ (bound : ℕ) where
 
     -- The call is over, or stops.
     concludes-from : (s : Stop) → s ≢ stop.Switches → s ≢ stop.NoRoom → ((kind : OtherInstruction) (n : ℕ) → s ≢ stop.LeavesOther kind n)
-        → (u : Whole) (first : Comes bound r u r' (fuel_left r')) → RunsTo bound r' first.new s r'' → ConcludesFrom bound r u s r''
+        → (u : Whole) (first : CallReaches bound r u r' (fuel_left r')) → RunsTo bound r' first.new s r'' → CallStopsFrom bound r u s r''
     concludes-from stop.Over apart roomy its u first ends = record {
       values = ends.values;
       steps = Steps-join NoHosts bound no_frame first.steps ends.steps;
@@ -110,11 +110,11 @@ module _ (bound : ℕ) where
     concludes-from stop.NoMemory apart roomy its u first stops = asks-for-memory r r'' u (stops-later r r' r'' u stop.NoMemory first stops)
     concludes-from s apart roomy its u first stops = stops-later r r' r'' u s first stops
 
-    pub concludes-so : (s : Stop) → s ≢ stop.Switches → s ≢ stop.NoRoom → ((kind : OtherInstruction) (n : ℕ) → s ≢ stop.LeavesOther kind n) → RunsFrom bound r' s r'' → Concludes bound r s r''
+    pub concludes-so : (s : Stop) → s ≢ stop.Switches → s ≢ stop.NoRoom → ((kind : OtherInstruction) (n : ℕ) → s ≢ stop.LeavesOther kind n) → RunsFrom bound r' s r'' → CallStops bound r s r''
     concludes-so s apart roomy its runs u rests = let first = came.from u rests in concludes-from s apart roomy its u first (runs.from first.new first.rests)
 
     valid-from : (s : Stop) → s ≢ stop.Switches → s ≢ stop.NoRoom → ((kind : OtherInstruction) (n : ℕ) → s ≢ stop.LeavesOther kind n) → (u : Whole)
-        → ConcludesFrom bound r u s r'' → StoreIsValid (store_around r'')
+        → CallStopsFrom bound r u s r'' → StoreIsValid (store_around r'')
     valid-from stop.Over apart roomy its u ends = ends.results.valid
     valid-from stop.Switches apart roomy its u wrong = absurd wrong
     valid-from stop.NoRoom apart roomy its u wrong = absurd wrong
@@ -135,8 +135,8 @@ module _ (bound : ℕ) where
 
       -- Then there are other cells.
       module _ (v : Vec ℕ) where
-        abbrev moved : (u : Whole) (left : ℕ) (there : Comes bound r u r'' left)
-            → RunsWhole bound (loop_at there.rests.world v.items r''.call.callers r''.call.position) there.new → Comes bound r u (with_cells r'' v) left
+        abbrev moved : (u : Whole) (left : ℕ) (there : CallReaches bound r u r'' left)
+            → RunsWhole bound (loop_at there.rests.world v.items r''.call.callers r''.call.position) there.new → CallReaches bound r u (with_cells r'' v) left
         moved u left there runs_whole = record {
           new = there.new;
           results = there.results;
@@ -149,13 +149,13 @@ module _ (bound : ℕ) where
           from = λ u rests.
               let there = (stopped u rests).there in
               let same : fuel_left r'' + 0 ≡ fuel_left r'' = omega arith in
-              subst (λ (left : ℕ). Comes bound r u (with_cells r'' v) left) same
+              subst (λ (left : ℕ). CallReaches bound r u (with_cells r'' v) left) same
               (moved u (fuel_left r'' + 0) there
               (subst (λ (z : List ℕ). RunsWhole bound (loop_at there.rests.world z r''.call.callers r''.call.position) there.new) (sym is)
               (longer-whole bound (loop_of there.rests.world r'') there.new more there.rests.runs)));
         }
 
-        pub concludes-unable : v.items ≡ r''.call.cells.items → Concludes bound r stop.NoMemory (with_cells r'' v)
+        pub concludes-unable : v.items ≡ r''.call.cells.items → CallStops bound r stop.NoMemory (with_cells r'' v)
         concludes-unable is u rests =
             let stops = stopped u rests in
             asks-for-memory r (with_cells r'' v) u
@@ -191,14 +191,14 @@ module _ (bound : ℕ) where
         (subst (λ (c : Contents). slice_get c.instances w.number ≡ Some w.instance) sees.code sees.instance.loaded.there)))
 
     -- The call has arrived before the instruction.
-    come-before : (u : Whole) → Rests bound r u → (there : Comes bound r u r'' (fuel_left r'')) × RestsBefore bound r'' op there.new
+    come-before : (u : Whole) → Rests bound r u → (there : CallReaches bound r u r'' (fuel_left r'')) × RestsBefore bound r'' op there.new
     come-before u rests =
         let first = came.from u rests in
         let stops = stops-later r r' r'' u (stop.LeavesOther kind n) first (runs.from first.new first.rests) in
         let same : fuel_left r'' + 0 ≡ fuel_left r'' = omega arith in
         let stands = subst (λ (ts : SideTables). StandsThere (machine_of r'') stops.there.new.ghost (Plain (other_op ts kind n)))
         (tables-seen stops.there.rests.world stops.there.rests.sees) stops.by.1 in
-        let (there, its) = subst (λ (left : ℕ). (c : Comes bound r u r'' left) × StandsThere (machine_of r'') c.new.ghost (Plain op)) same (stops.there, stands) in
+        let (there, its) = subst (λ (left : ℕ). (c : CallReaches bound r u r'' left) × StandsThere (machine_of r'') c.new.ghost (Plain op)) same (stops.there, stands) in
         (there, record { rests = there.rests; there = its })
 
     pub left-before : RestsSome bound r → IsLeft kind
@@ -208,10 +208,10 @@ module _ (bound : ℕ) where
     some-before (u, rests) = let (there, b) = come-before u rests in (bound, there.new, b)
 
     -- The call continues after the instruction.
-    pub came-done : GoesOn r'' op r3 → Came bound r r3
+    pub came-done : ContinuesAfter r'' op r3 → Came bound r r3
     came-done done = record { from = λ u rests. let (there, b) = come-before u rests in comes-then r r'' r3 u (fuel_left r3) there (done.comes bound there.new b) }
 
-    pub falls-done : RestsSome bound r → bound < 2 ^ 64 → GoesOn r'' op r3 → (size : length r''.call.cells.items ≡ length r'.call.cells.items)
+    pub falls-done : RestsSome bound r → bound < 2 ^ 64 → ContinuesAfter r'' op r3 → (size : length r''.call.cells.items ≡ length r'.call.cells.items)
         → 2 ^ 64 * left_of r3 + (2 ^ 64 - length r3.call.cells.items) < 2 ^ 64 * left_of r' + (2 ^ 64 - length r'.call.cells.items)
     falls-done (u, rests) small done size =
         let first = came.from u rests in
@@ -223,7 +223,7 @@ module _ (bound : ℕ) where
         (omega (arith, spent, done.falls)) (omega (arith, deep, as_many, small)) (done.size ∙ size)
 
     -- The call stops there.
-    concludes-there : (s : Stop) (u : Whole) (there : Comes bound r u r'' (fuel_left r'')) → StopsFor bound r'' there.new s r3 → ConcludesFrom bound r u s r3
+    concludes-there : (s : Stop) (u : Whole) (there : CallReaches bound r u r'' (fuel_left r'')) → StopsFor bound r'' there.new s r3 → CallStopsFrom bound r u s r3
     concludes-there stop.NoFuel u there stops = stops-later r r'' r3 u stop.NoFuel there stops
     concludes-there stop.NoMemory u there lacks = record { there = comes-then r r'' r3 u (fuel_left r3) there lacks.there; by = lacks.by }
     concludes-there (stop.Traps trap) u there stops = stops-later r r'' r3 u (stop.Traps trap) there stops
@@ -236,7 +236,7 @@ module _ (bound : ℕ) where
     valid-there s u wrong = absurd wrong
 
     module _ (s : Stop) (stops : (bound : ℕ) (u : Whole) → RestsBefore bound r'' op u → StopsFor bound r'' u s r3) where
-      pub concludes-before : Concludes bound r s r3
+      pub concludes-before : CallStops bound r s r3
       concludes-before u rests = let (there, b) = come-before u rests in concludes-there s u there (stops bound there.new b)
 
       pub valid-before : RestsSome bound r → StoreIsValid (store_around r3)

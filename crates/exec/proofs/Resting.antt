@@ -10,8 +10,8 @@ use Rattle.soundness.specs.Stores.{StoreIsValid}
 use Rattle.sidetable.specs.FlatModules.{operations_of}
 use Rattle.store.specs.Contents.{Contents}
 use Rattle.interpreter.specs.Callers.{CallersStand}
-use Rattle.exec.specs.Resting.{AtRest, Comes, FallsTo, LeadsTo, Rests, RestsSome, RunsFrom, RunsTo, fuel_left, loop_of, machine_of, store_around}
-use Rattle.interpreter.specs.Whole.{FallsAt, HasResults, IsSeenFrom, Loop, Reaches, RunsWhole, StopsAt, StopsBy, StopsFrom, Whole, paid_for, state, whole}
+use Rattle.exec.specs.Resting.{AtRest, CallReaches, FallsTo, CallStepsTo, Rests, RestsSome, RunsFrom, RunsTo, fuel_left, loop_of, machine_of, store_around}
+use Rattle.interpreter.specs.Whole.{FallsAt, HasResults, IsSeenFrom, Loop, LoopReaches, RunsWhole, StopsAt, StopsBy, StopsFrom, Whole, paid_for, state, whole}
 use Rattle.interpreter.specs.Worlds.{Sees, World, memory_in, store_in, with_memory_back}
 use Rattle.interpreter.specs.declared.machine.Stop.{Stop}
 use Rattle.interpreter.specs.declared.machine.Stop.TheVariants as stop
@@ -66,13 +66,13 @@ module _ (bound : ℕ) (r : AtRest) where
 
 module _ (bound : ℕ) (r r' : AtRest) (w w' : World) (start : Sees r.code (store_around r) r.call.position.instance w) (code_is : w'.code ≡ r'.code) (store_is : store_in w' ≡ store_around r') where
   led : (u : Whole) (end : Store) → end ≡ store_around r' → (left : ℕ) (c : Configuration)
-      → Steps NoHosts bound no_frame (state (store_in w) (fuel_left r)) (whole u) (state end left) c → LeadsTo bound r u r' left c
+      → Steps NoHosts bound no_frame (state (store_in w) (fuel_left r)) (whole u) (state end left) c → CallStepsTo bound r u r' left c
   led u end end_is left c steps =
       subst (λ (s : Store). Steps NoHosts bound no_frame (state (store_around r) (fuel_left r)) (whole u) (state s left) c) end_is
       (subst (λ (s : Store). Steps NoHosts bound no_frame (state s (fuel_left r)) (whole u) (state end left) c) start.store steps)
 
   abbrev comes : (u : Whole) (other : World) → other.code ≡ r'.code → store_in other ≡ store_around r' → (left : ℕ)
-      → Reaches bound (loop_of w r) u (record (loop_of other r') { fuel = left }) → Comes bound r u r' left
+      → LoopReaches bound (loop_of w r) u (record (loop_of other r') { fuel = left }) → CallReaches bound r u r' left
   comes u other code store left t = record {
     new = t.new;
     results = t.results;

@@ -58,8 +58,8 @@ HasRoomForResults call many =
     × (call.position.base + many ≤ length call.cells.items)
 
 -- Results replaced the innermost frame, and the waiting frame has them.
-abbrev pub GoesBack : Call → List Val → Call → Type 0
-GoesBack old values new =
+abbrev pub ReturnsTo : Call → List Val → Call → Type 0
+ReturnsTo old values new =
     (frame : Frame) × (old.callers ≡ frame ∷ new.callers)
     × (new.cells.items ≡ with_results old.cells.items old.position.base values)
     × (new.position ≡
@@ -74,8 +74,8 @@ EndsWith old values outcome new =
 module _ {H : Type 0} (HostStep : List H → ℕ → Option ℕ → List Val → Store → Answer → Store
     → List H → Type 0) (bound : ℕ) where
   -- Steps of the whole lead to where the call rests.
-  pub record ComesOver (r : AtRest) (hosts : List H) (w : Whole) (r' : AtRest) (hosts' : List H)
-      : Type 0 where
+  pub record ReachesWithHosts (r : AtRest) (hosts : List H) (w : Whole) (r' : AtRest)
+      (hosts' : List H) : Type 0 where
     pub new : Whole
     pub results : new.results ≡ w.results
     pub steps : Steps HostStep bound no_frame (run_state (store_around r) hosts (fuel_left r))
@@ -83,9 +83,9 @@ module _ {H : Type 0} (HostStep : List H → ℕ → Option ℕ → List Val →
     pub rests : Rests bound r' new
 
   -- The call continues after the host function, or the host function ended the run.
-  abbrev pub ComesOverOrEnds : {U : Type 0} → AtRest → List H → Whole → Result U Outcome → AtRest
-      → List H → Type 0
-  ComesOverOrEnds r hosts w (Ok u) r' hosts' = ComesOver r hosts w r' hosts'
-  ComesOverOrEnds r hosts w (Err outcome) r' hosts' =
+  abbrev pub ReachesWithHostsOrEnds : {U : Type 0} → AtRest → List H → Whole → Result U Outcome
+      → AtRest → List H → Type 0
+  ReachesWithHostsOrEnds r hosts w (Ok u) r' hosts' = ReachesWithHosts r hosts w r' hosts'
+  ReachesWithHostsOrEnds r hosts w (Err outcome) r' hosts' =
       Run HostStep bound no_frame (run_state (store_around r) hosts (fuel_left r)) (whole w)
       (ending_of outcome) (run_state (store_around r') hosts' (fuel_left r'))

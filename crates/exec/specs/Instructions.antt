@@ -13,14 +13,14 @@ use Rattle.simulation.specs.Runs.{Ghost}
 use Rattle.store.specs.Contents.{Contents, code_store}
 use Rattle.effects.specs.Outcomes.{Gives}
 use Rattle.effects.specs.declared.payment.Paid.{Paid}
-use Rattle.effects.specs.declared.payment.Refusal.{Refusal}
+use Rattle.effects.specs.declared.payment.Fault.{Fault}
 use Rattle.interpreter.specs.Running.{Machine, cells_in, height_in}
-use Rattle.interpreter.specs.Turns.{StandsThere}
+use Rattle.interpreter.specs.Operations.{StandsThere}
 use Rattle.interpreter.specs.Whole.{Whole}
 use Rattle.interpreter.specs.declared.machine.Position.{Position}
 use Rattle.interpreter.specs.declared.machine.Stop.{Stop}
 use Rattle.interpreter.specs.declared.machine.Stop.TheVariants as stop
-use Rattle.exec.specs.Resting.{AtRest, Comes, LacksMemory, Rests, StopsAtRest, fuel_left, machine_of, store_around}
+use Rattle.exec.specs.Resting.{AtRest, CallReaches, LacksMemory, Rests, StopsAtRest, fuel_left, machine_of, store_around}
 use Rattle.exec.specs.declared.call.Call.{Call}
 
 -- ---- before an instruction
@@ -73,13 +73,13 @@ abbrev pub HasRoom : Machine → (taken : ℕ) → Option ℕ → Type 0
 HasRoom m taken None = Unit {0}
 HasRoom m taken (Some cell) = m.top - taken + 1 < length m.cells
 
-abbrev pub HasRoomFor : Machine → (taken : ℕ) → Result Paid Refusal → Type 0
+abbrev pub HasRoomFor : Machine → (taken : ℕ) → Result Paid Fault → Type 0
 HasRoomFor m taken (Ok paid) = HasRoom m taken paid.result
-HasRoomFor m taken (Err refusal) = Unit {0}
+HasRoomFor m taken (Err fault) = Unit {0}
 
 -- With that many operands the instruction has an outcome in the frame, and this is its result.
-pub record HasCome (r : AtRest) (g : Ghost) (taken : ℕ) (new : Store) (result : Result Paid Refusal)
-    : Type 0 where
+pub record HasResultIn (r : AtRest) (g : Ghost) (taken : ℕ) (new : Store)
+    (result : Result Paid Fault) : Type 0 where
   pub outcome : Outcome
   pub has : HasOutcome g (cells_in g (machine_of r)) r.call.position.place
       (height_in (machine_of r)) (height_in (machine_of r) - taken) outcome
@@ -88,9 +88,9 @@ pub record HasCome (r : AtRest) (g : Ghost) (taken : ℕ) (new : Store) (result 
   pub gives : Gives outcome (store_around r) new (fuel_left r) result
 
 -- The same for any run there.
-abbrev pub Acts : AtRest → PlainOp → (taken : ℕ) → Store → Result Paid Refusal → Type 0
-Acts r op taken new result =
-    (bound : ℕ) (u : Whole) → RestsBefore bound r op u → HasCome r u.ghost taken new result
+abbrev pub HasResult : AtRest → PlainOp → (taken : ℕ) → Store → Result Paid Fault → Type 0
+HasResult r op taken new result =
+    (bound : ℕ) (u : Whole) → RestsBefore bound r op u → HasResultIn r u.ghost taken new result
 
 -- ---- where the call continues
 
@@ -117,8 +117,9 @@ position_behind call taken paid =
     }
 
 -- The call continues after the instruction, with less fuel.
-pub record GoesOn (r : AtRest) (op : PlainOp) (r' : AtRest) : Type 0 where
-  pub comes : (bound : ℕ) (u : Whole) → RestsBefore bound r op u → Comes bound r u r' (fuel_left r')
+pub record ContinuesAfter (r : AtRest) (op : PlainOp) (r' : AtRest) : Type 0 where
+  pub comes : (bound : ℕ) (u : Whole) → RestsBefore bound r op u
+      → CallReaches bound r u r' (fuel_left r')
   pub falls : fuel_left r' < fuel_left r
   pub size : length r'.call.cells.items ≡ length r.call.cells.items
   pub callers : r'.call.callers ≡ r.call.callers
@@ -132,6 +133,6 @@ StopsFor bound r u s r' = ⊥
 
 -- The instruction was done, and the call continues, or the call stops before it.
 abbrev pub Does : AtRest → PlainOp → Result (Unit {0}) Stop → AtRest → Type 0
-Does r op (Ok u) r' = GoesOn r op r'
+Does r op (Ok u) r' = ContinuesAfter r op r'
 Does r op (Err s) r' =
     (bound : ℕ) (u : Whole) → RestsBefore bound r op u → StopsFor bound r u s r'

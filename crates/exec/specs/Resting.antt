@@ -49,41 +49,41 @@ RestsSome bound r = (w : Whole) × Rests bound r w
 -- ---- where a call arrives
 
 -- Steps of the whole lead to a configuration, with this fuel left.
-abbrev pub LeadsTo : (bound : ℕ) → AtRest → Whole → AtRest → (fuel : ℕ) → Configuration → Type 0
-LeadsTo bound r w r' fuel c =
+abbrev pub CallStepsTo : (bound : ℕ) → AtRest → Whole → AtRest → (fuel : ℕ) → Configuration → Type 0
+CallStepsTo bound r w r' fuel c =
     Steps NoHosts bound no_frame (state (store_around r) (fuel_left r)) (whole w)
     (state (store_around r') fuel) c
 
 -- The steps lead to where the call rests again.
-pub record Comes (bound : ℕ) (r : AtRest) (w : Whole) (r' : AtRest) (fuel : ℕ) : Type 0 where
+pub record CallReaches (bound : ℕ) (r : AtRest) (w : Whole) (r' : AtRest) (fuel : ℕ) : Type 0 where
   pub new : Whole
   pub results : new.results ≡ w.results
-  pub steps : LeadsTo bound r w r' fuel (whole new)
+  pub steps : CallStepsTo bound r w r' fuel (whole new)
   pub rests : Rests bound r' new
 
 -- The call arrived where it stops.
 pub record StopsAtRest (bound : ℕ) (r : AtRest) (w : Whole) (s : Stop) (r' : AtRest)
     : Type 0 where
-  pub there : Comes bound r w r' (fuel_left r' + paid_for s)
+  pub there : CallReaches bound r w r' (fuel_left r' + paid_for s)
   pub by : StopsBy bound s there.rests.world (store_around r') (fuel_left r' + paid_for s)
       (machine_of r') there.new
 
 -- The call arrived where it asks for memory that cannot be allocated.
 pub record LacksMemory (bound : ℕ) (r : AtRest) (w : Whole) (r' : AtRest) : Type 0 where
-  pub there : Comes bound r w r' (fuel_left r')
+  pub there : CallReaches bound r w r' (fuel_left r')
   pub by : AsksNext bound (store_around r') (fuel_left r') there.new
 
 -- The call ended, and its results are on top.
 pub record Ends (bound : ℕ) (r : AtRest) (w : Whole) (r' : AtRest) : Type 0 where
   pub values : List Val
-  pub steps : LeadsTo bound r w r' (fuel_left r') (Running values Empty)
+  pub steps : CallStepsTo bound r w r' (fuel_left r') (Running values Empty)
   pub results : HasResults (store_around r') (machine_of r') w.results values
 
 -- ---- what code of one instance leads to
 
 abbrev pub RunsTo : (bound : ℕ) → AtRest → Whole → Stop → AtRest → Type 0
 RunsTo bound r w stop.Over r' = Ends bound r w r'
-RunsTo bound r w stop.Switches r' = Comes bound r w r' (fuel_left r')
+RunsTo bound r w stop.Switches r' = CallReaches bound r w r' (fuel_left r')
 RunsTo bound r w s r' = StopsAtRest bound r w s r'
 
 -- What is left to do.
@@ -101,15 +101,15 @@ pub record RunsFrom (bound : ℕ) (r : AtRest) (s : Stop) (r' : AtRest) : Type 0
 
 -- ---- what code of all instances leads to
 
-abbrev pub ConcludesFrom : (bound : ℕ) → AtRest → Whole → Stop → AtRest → Type 0
-ConcludesFrom bound r w stop.Over r' = Ends bound r w r'
-ConcludesFrom bound r w stop.NoMemory r' = LacksMemory bound r w r'
-ConcludesFrom bound r w stop.Switches r' = ⊥
-ConcludesFrom bound r w stop.NoRoom r' = ⊥
-ConcludesFrom bound r w (stop.LeavesOther kind n) r' = ⊥
-ConcludesFrom bound r w s r' = StopsAtRest bound r w s r'
+abbrev pub CallStopsFrom : (bound : ℕ) → AtRest → Whole → Stop → AtRest → Type 0
+CallStopsFrom bound r w stop.Over r' = Ends bound r w r'
+CallStopsFrom bound r w stop.NoMemory r' = LacksMemory bound r w r'
+CallStopsFrom bound r w stop.Switches r' = ⊥
+CallStopsFrom bound r w stop.NoRoom r' = ⊥
+CallStopsFrom bound r w (stop.LeavesOther kind n) r' = ⊥
+CallStopsFrom bound r w s r' = StopsAtRest bound r w s r'
 
 -- The call never stops where code of another instance is next, nor for lack of cells only, nor before an instruction that the loop leaves
 -- to others.
-abbrev pub Concludes : (bound : ℕ) → AtRest → Stop → AtRest → Type 0
-Concludes bound r s r' = (w : Whole) → Rests bound r w → ConcludesFrom bound r w s r'
+abbrev pub CallStops : (bound : ℕ) → AtRest → Stop → AtRest → Type 0
+CallStops bound r s r' = (w : Whole) → Rests bound r w → CallStopsFrom bound r w s r'

@@ -1,7 +1,7 @@
 ghost use Rattle.std.specs.Prelude.{◌≡◌, ◌<◌, ◌++◌, length, replicate, slice_get, Some, None, OnErr, OnOk};
 ghost use Rattle.soundness.specs.Stores.{StoreIsValid};
 ghost use Rattle.store.specs.declared.instances.Instance.{Instance as AnyInstance};
-ghost use Rattle.exec.specs.Resting.{Concludes, RestsSome, RunsFrom, at_rest, store_around};
+ghost use Rattle.exec.specs.Resting.{CallStops, RestsSome, RunsFrom, at_rest, store_around};
 
 use crate::call::{CELL_BYTES, Call};
 use crate::instructions::step;
@@ -132,7 +132,7 @@ fn tables_of<'a>(code: &'a Code, call: &Call) -> &'a SideTables
 /// instruction that the loop leaves to others. A call that stopped can be run again, from there and with the fuel left.
 pub fn go_on(code: &Code, state: &mut State, bound: u64, call: &mut Call) -> Stop
     requires rests { RestsSome bound (at_rest code.now state.old call.old) }
-    ensures concludes { Concludes bound (at_rest code.now state.old call.old) result
+    ensures concludes { CallStops bound (at_rest code.now state.old call.old) result
         (at_rest code.now state.new call.new) }
     ensures valid { StoreIsValid (store_around (at_rest code.now state.new call.new)) }
 {

@@ -13,7 +13,7 @@ ghost use Rattle.cells.specs.Cells.{AreCellsOf, values_of};
 ghost use Rattle.store.specs.Contents.{callee_function, code_store, store_of, store_with};
 ghost use Rattle.exec.specs.Endings.{ending_of, first_memory, run_state};
 ghost use Rattle.interpreter.specs.Whole.{Whole, whole};
-ghost use Rattle.exec.specs.Hosting.{ComesOverOrEnds, EndsWith, GoesBack, HasRoomForResults, WaitsFor, cells_below, position_answered, with_results};
+ghost use Rattle.exec.specs.Hosting.{ReachesWithHostsOrEnds, EndsWith, ReturnsTo, HasRoomForResults, WaitsFor, cells_below, position_answered, with_results};
 ghost use Rattle.exec.specs.Resting.{at_rest, fuel_left, store_around};
 
 use crate::call::{Call, frame_behind};
@@ -104,7 +104,7 @@ fn put_results(values: &[Val], first: usize, frame: Frame, call: &mut Call)
 fn return_results(values: Vec<Val>, call: &mut Call) -> Result<(), Outcome>
     requires room { HasRoomForResults call.old (length values.items) }
     requires paid { 1 ≤ call.old.position.fuel }
-    ensures back { IfOk result (λ done. GoesBack call.old values.items call.new) }
+    ensures back { IfOk result (λ done. ReturnsTo call.old values.items call.new) }
     ensures over { IfErr result (λ outcome. EndsWith call.old values.items outcome call.new) }
 {
     let Some(frame) = call.callers.pop() else {
@@ -139,7 +139,7 @@ pub fn call_host(
     requires waits { (w : Whole) × WaitsFor bound (at_rest code.now state.old call.old) w wanted }
     requires hosts { HaveHosts (store_with code.now state.old) (hosts_in hosts.old) }
     ensures came { (w : Whole) → WaitsFor bound (at_rest code.now state.old call.old) w wanted
-        → ComesOverOrEnds (HostStep ⟦<dyn HostFn as HostFn>⟧) bound
+        → ReachesWithHostsOrEnds (HostStep ⟦<dyn HostFn as HostFn>⟧) bound
         (at_rest code.now state.old call.old) (hosts_in hosts.old) w result
         (at_rest code.now state.new call.new) (hosts_in hosts.new) }
     ensures hosts { HaveHosts (store_with code.now state.new) (hosts_in hosts.new) }

@@ -2,8 +2,8 @@ ghost use Rattle.std.specs.Prelude.{◌≡◌, ◌+◌, ◌<◌, ◌≤◌, ◌^
 ghost use Rattle.sidetable.specs.SideTables.{pair_of as pair_at};
 ghost use Rattle.store.specs.Contents.{store_with};
 ghost use Rattle.sidetable.specs.Packing.{other_op};
-ghost use Rattle.interpreter.specs.Turns.{IsLeft};
-ghost use Rattle.exec.specs.Instructions.{Acts, Does, RestsSomeBefore, cells_behind, position_behind, taken_by as takes};
+ghost use Rattle.interpreter.specs.Operations.{IsLeft};
+ghost use Rattle.exec.specs.Instructions.{HasResult, Does, RestsSomeBefore, cells_behind, position_behind, taken_by as takes};
 ghost use Rattle.exec.specs.Resting.{at_rest};
 
 use crate::call::Call;
@@ -11,7 +11,7 @@ use crate::memories::{data_drop, memory_copy, memory_fill, memory_grow, memory_i
 use crate::tables::{
     elem_drop, table_copy, table_fill, table_get, table_grow, table_init, table_set, table_size,
 };
-use effects::{Paid, Refusal};
+use effects::{Fault, Paid};
 use interpreter::Stop;
 use sidetable::{IndexPair, OtherInstruction, SideTables};
 use store::{Code, State};
@@ -37,11 +37,11 @@ fn act(
     kind: OtherInstruction,
     n: u32,
     call: &Call,
-) -> Result<Paid, Refusal>
+) -> Result<Paid, Fault>
     requires left { IsLeft kind }
     requires rests { RestsSomeBefore (at_rest code.now state.old call.now)
         (other_op tables.now kind n) }
-    ensures { Acts (at_rest code.now state.old call.now)
+    ensures { HasResult (at_rest code.now state.old call.now)
         (other_op tables.now kind n) (takes kind)
         (store_with code.now state.new) result }
 {
@@ -129,9 +129,9 @@ pub fn step(
             go_behind(call, taken_by(kind), paid);
             Ok(())
         }
-        Err(Refusal::NoFuel) => Err(Stop::NoFuel),
-        Err(Refusal::NoMemory) => Err(Stop::NoMemory),
-        Err(Refusal::Traps(trap)) => {
+        Err(Fault::NoFuel) => Err(Stop::NoFuel),
+        Err(Fault::NoMemory) => Err(Stop::NoMemory),
+        Err(Fault::Traps(trap)) => {
             call.position.fuel -= 1;
             Err(Stop::Traps(trap))
         }

@@ -1,19 +1,19 @@
 ghost use Rattle.core_types.specs.declared.op.MemoryOp.TheVariants as memory;
 ghost use Rattle.core_types.specs.declared.op.PlainOp.TheVariants.{Memory};
 ghost use Rattle.store.specs.Contents.{store_with};
-ghost use Rattle.exec.specs.Instructions.{Acts, RestsSomeBefore};
+ghost use Rattle.exec.specs.Instructions.{HasResult, RestsSomeBefore};
 ghost use Rattle.exec.specs.Resting.{at_rest};
 
 use crate::addresses::{data_at, memory_at};
 use crate::call::Call;
 use crate::operands::integer;
-use effects::{Paid, Refusal, copy_memory, drop_data, fill_memory, grow_memory, init_memory};
+use effects::{Fault, Paid, copy_memory, drop_data, fill_memory, grow_memory, init_memory};
 use store::{Code, State};
 
 /// Adds pages to the memory (Execution, Memory Instructions, memory.grow).
-pub fn memory_grow(code: &Code, state: &mut State, call: &Call) -> Result<Paid, Refusal>
+pub fn memory_grow(code: &Code, state: &mut State, call: &Call) -> Result<Paid, Fault>
     requires { RestsSomeBefore (at_rest code.now state.old call.now) (Memory memory.Grow) }
-    ensures { Acts (at_rest code.now state.old call.now) (Memory memory.Grow) 1
+    ensures { HasResult (at_rest code.now state.old call.now) (Memory memory.Grow) 1
         (store_with code.now state.new) result }
 {
     let address = memory_at(code, call);
@@ -22,9 +22,9 @@ pub fn memory_grow(code: &Code, state: &mut State, call: &Call) -> Result<Paid, 
 }
 
 /// Fills bytes of the memory with a value (Execution, Memory Instructions, memory.fill).
-pub fn memory_fill(code: &Code, state: &mut State, call: &Call) -> Result<Paid, Refusal>
+pub fn memory_fill(code: &Code, state: &mut State, call: &Call) -> Result<Paid, Fault>
     requires { RestsSomeBefore (at_rest code.now state.old call.now) (Memory memory.Fill) }
-    ensures { Acts (at_rest code.now state.old call.now) (Memory memory.Fill) 3
+    ensures { HasResult (at_rest code.now state.old call.now) (Memory memory.Fill) 3
         (store_with code.now state.new) result }
 {
     let address = memory_at(code, call);
@@ -35,9 +35,9 @@ pub fn memory_fill(code: &Code, state: &mut State, call: &Call) -> Result<Paid, 
 }
 
 /// Copies bytes of the memory (Execution, Memory Instructions, memory.copy).
-pub fn memory_copy(code: &Code, state: &mut State, call: &Call) -> Result<Paid, Refusal>
+pub fn memory_copy(code: &Code, state: &mut State, call: &Call) -> Result<Paid, Fault>
     requires { RestsSomeBefore (at_rest code.now state.old call.now) (Memory memory.Copy) }
-    ensures { Acts (at_rest code.now state.old call.now) (Memory memory.Copy) 3
+    ensures { HasResult (at_rest code.now state.old call.now) (Memory memory.Copy) 3
         (store_with code.now state.new) result }
 {
     let address = memory_at(code, call);
@@ -48,15 +48,10 @@ pub fn memory_copy(code: &Code, state: &mut State, call: &Call) -> Result<Paid, 
 }
 
 /// Copies bytes of a data segment into the memory (Execution, Memory Instructions, memory.init).
-pub fn memory_init(
-    code: &Code,
-    state: &mut State,
-    call: &Call,
-    segment: u32,
-) -> Result<Paid, Refusal>
+pub fn memory_init(code: &Code, state: &mut State, call: &Call, segment: u32) -> Result<Paid, Fault>
     requires { RestsSomeBefore (at_rest code.now state.old call.now)
         (Memory (memory.Init segment)) }
-    ensures { Acts (at_rest code.now state.old call.now) (Memory (memory.Init segment)) 3
+    ensures { HasResult (at_rest code.now state.old call.now) (Memory (memory.Init segment)) 3
         (store_with code.now state.new) result }
 {
     let address = memory_at(code, call);
@@ -76,10 +71,10 @@ pub fn memory_init(
 }
 
 /// Drops the bytes of a data segment (Execution, Memory Instructions, data.drop).
-pub fn data_drop(code: &Code, state: &mut State, call: &Call, segment: u32) -> Result<Paid, Refusal>
+pub fn data_drop(code: &Code, state: &mut State, call: &Call, segment: u32) -> Result<Paid, Fault>
     requires { RestsSomeBefore (at_rest code.now state.old call.now)
         (Memory (memory.DataDrop segment)) }
-    ensures { Acts (at_rest code.now state.old call.now) (Memory (memory.DataDrop segment)) 0
+    ensures { HasResult (at_rest code.now state.old call.now) (Memory (memory.DataDrop segment)) 0
         (store_with code.now state.new) result }
 {
     let address = data_at(code, call, segment);

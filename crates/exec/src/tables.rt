@@ -1,22 +1,22 @@
 ghost use Rattle.core_types.specs.declared.op.PlainOp.TheVariants.{Table};
 ghost use Rattle.core_types.specs.declared.op.TableOp.TheVariants as table;
 ghost use Rattle.store.specs.Contents.{store_with};
-ghost use Rattle.exec.specs.Instructions.{Acts, RestsSomeBefore};
+ghost use Rattle.exec.specs.Instructions.{HasResult, RestsSomeBefore};
 ghost use Rattle.exec.specs.Resting.{at_rest};
 
 use crate::addresses::{elements_at, table_at};
 use crate::call::Call;
 use crate::operands::{integer, operand};
 use effects::{
-    Paid, Refusal, copy_table, drop_elements, fill_table, get_entry, grow_table, init_table,
+    Fault, Paid, copy_table, drop_elements, fill_table, get_entry, grow_table, init_table,
     measure_table, set_entry,
 };
 use store::{Code, State};
 
 /// Reads an entry of a table (Execution, Table Instructions, table.get).
-pub fn table_get(code: &Code, state: &mut State, call: &Call, x: u32) -> Result<Paid, Refusal>
+pub fn table_get(code: &Code, state: &mut State, call: &Call, x: u32) -> Result<Paid, Fault>
     requires { RestsSomeBefore (at_rest code.now state.old call.now) (Table (table.Get x)) }
-    ensures { Acts (at_rest code.now state.old call.now) (Table (table.Get x)) 1
+    ensures { HasResult (at_rest code.now state.old call.now) (Table (table.Get x)) 1
         (store_with code.now state.new) result }
 {
     let address = table_at(code, call, x);
@@ -25,9 +25,9 @@ pub fn table_get(code: &Code, state: &mut State, call: &Call, x: u32) -> Result<
 }
 
 /// Sets an entry of a table (Execution, Table Instructions, table.set).
-pub fn table_set(code: &Code, state: &mut State, call: &Call, x: u32) -> Result<Paid, Refusal>
+pub fn table_set(code: &Code, state: &mut State, call: &Call, x: u32) -> Result<Paid, Fault>
     requires { RestsSomeBefore (at_rest code.now state.old call.now) (Table (table.Set x)) }
-    ensures { Acts (at_rest code.now state.old call.now) (Table (table.Set x)) 2
+    ensures { HasResult (at_rest code.now state.old call.now) (Table (table.Set x)) 2
         (store_with code.now state.new) result }
 {
     let address = table_at(code, call, x);
@@ -37,9 +37,9 @@ pub fn table_set(code: &Code, state: &mut State, call: &Call, x: u32) -> Result<
 }
 
 /// Returns the size of a table (Execution, Table Instructions, table.size).
-pub fn table_size(code: &Code, state: &mut State, call: &Call, x: u32) -> Result<Paid, Refusal>
+pub fn table_size(code: &Code, state: &mut State, call: &Call, x: u32) -> Result<Paid, Fault>
     requires { RestsSomeBefore (at_rest code.now state.old call.now) (Table (table.Size x)) }
-    ensures { Acts (at_rest code.now state.old call.now) (Table (table.Size x)) 0
+    ensures { HasResult (at_rest code.now state.old call.now) (Table (table.Size x)) 0
         (store_with code.now state.new) result }
 {
     let address = table_at(code, call, x);
@@ -47,9 +47,9 @@ pub fn table_size(code: &Code, state: &mut State, call: &Call, x: u32) -> Result
 }
 
 /// Adds entries to a table (Execution, Table Instructions, table.grow).
-pub fn table_grow(code: &Code, state: &mut State, call: &Call, x: u32) -> Result<Paid, Refusal>
+pub fn table_grow(code: &Code, state: &mut State, call: &Call, x: u32) -> Result<Paid, Fault>
     requires { RestsSomeBefore (at_rest code.now state.old call.now) (Table (table.Grow x)) }
-    ensures { Acts (at_rest code.now state.old call.now) (Table (table.Grow x)) 2
+    ensures { HasResult (at_rest code.now state.old call.now) (Table (table.Grow x)) 2
         (store_with code.now state.new) result }
 {
     let address = table_at(code, call, x);
@@ -59,9 +59,9 @@ pub fn table_grow(code: &Code, state: &mut State, call: &Call, x: u32) -> Result
 }
 
 /// Fills entries of a table with a reference (Execution, Table Instructions, table.fill).
-pub fn table_fill(code: &Code, state: &mut State, call: &Call, x: u32) -> Result<Paid, Refusal>
+pub fn table_fill(code: &Code, state: &mut State, call: &Call, x: u32) -> Result<Paid, Fault>
     requires { RestsSomeBefore (at_rest code.now state.old call.now) (Table (table.Fill x)) }
-    ensures { Acts (at_rest code.now state.old call.now) (Table (table.Fill x)) 3
+    ensures { HasResult (at_rest code.now state.old call.now) (Table (table.Fill x)) 3
         (store_with code.now state.new) result }
 {
     let address = table_at(code, call, x);
@@ -78,9 +78,9 @@ pub fn table_copy(
     call: &Call,
     x: u32,
     y: u32,
-) -> Result<Paid, Refusal>
+) -> Result<Paid, Fault>
     requires { RestsSomeBefore (at_rest code.now state.old call.now) (Table (table.Copy x y)) }
-    ensures { Acts (at_rest code.now state.old call.now) (Table (table.Copy x y)) 3
+    ensures { HasResult (at_rest code.now state.old call.now) (Table (table.Copy x y)) 3
         (store_with code.now state.new) result }
 {
     let address = table_at(code, call, x);
@@ -106,10 +106,10 @@ pub fn table_init(
     call: &Call,
     segment: u32,
     x: u32,
-) -> Result<Paid, Refusal>
+) -> Result<Paid, Fault>
     requires { RestsSomeBefore (at_rest code.now state.old call.now)
         (Table (table.Init segment x)) }
-    ensures { Acts (at_rest code.now state.old call.now) (Table (table.Init segment x)) 3
+    ensures { HasResult (at_rest code.now state.old call.now) (Table (table.Init segment x)) 3
         (store_with code.now state.new) result }
 {
     let address = table_at(code, call, x);
@@ -129,10 +129,10 @@ pub fn table_init(
 }
 
 /// Drops the references of an element segment (Execution, Table Instructions, elem.drop).
-pub fn elem_drop(code: &Code, state: &mut State, call: &Call, segment: u32) -> Result<Paid, Refusal>
+pub fn elem_drop(code: &Code, state: &mut State, call: &Call, segment: u32) -> Result<Paid, Fault>
     requires { RestsSomeBefore (at_rest code.now state.old call.now)
         (Table (table.ElemDrop segment)) }
-    ensures { Acts (at_rest code.now state.old call.now) (Table (table.ElemDrop segment)) 0
+    ensures { HasResult (at_rest code.now state.old call.now) (Table (table.ElemDrop segment)) 0
         (store_with code.now state.new) result }
 {
     let address = elements_at(code, call, segment);

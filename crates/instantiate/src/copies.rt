@@ -16,7 +16,7 @@ ghost use Rattle.instantiate.specs.Tasks.{Passes, RunsTo, StepsOrEnds, frame_in,
 
 use crate::link_end::TaskEnd;
 use core_types::{Exhaustion, Module};
-use effects::{Paid, Refusal, drop_data, drop_elements, init_memory, init_table};
+use effects::{Fault, Paid, drop_data, drop_elements, init_memory, init_table};
 use exec::Outcome;
 use fuel::Meter;
 use store::{Addresses, Code, State};
@@ -31,7 +31,7 @@ pub struct Linked<'a> {
 }
 
 // Continues a link after an instruction, which is paid for, or ends it.
-fn pass(answer: Result<Paid, Refusal>, meter: &mut Meter) -> Result<(), TaskEnd>
+fn pass(answer: Result<Paid, Fault>, meter: &mut Meter) -> Result<(), TaskEnd>
     ensures passes { (o : AnyOutcome) (old new : AnyStore)
         → Gives o old new meter.old.left answer
         → Passes result o old new meter.old.left meter.new.left }
@@ -43,12 +43,12 @@ fn pass(answer: Result<Paid, Refusal>, meter: &mut Meter) -> Result<(), TaskEnd>
             meter.set(paid.fuel);
             Ok(())
         }
-        Err(Refusal::Traps(trap)) => {
+        Err(Fault::Traps(trap)) => {
             let _ = meter.try_spend(1);
             Err(TaskEnd::Ended(Outcome::Trap(trap)))
         }
-        Err(Refusal::NoFuel) => Err(TaskEnd::Ended(Outcome::Exhausted(Exhaustion::Fuel))),
-        Err(Refusal::NoMemory) => Err(TaskEnd::Ended(Outcome::Exhausted(Exhaustion::Memory))),
+        Err(Fault::NoFuel) => Err(TaskEnd::Ended(Outcome::Exhausted(Exhaustion::Fuel))),
+        Err(Fault::NoMemory) => Err(TaskEnd::Ended(Outcome::Exhausted(Exhaustion::Memory))),
     }
 }
 

@@ -1,3 +1,2 @@
 -- Lemmas on lists of imports and exports.
 pub mod Growing
-pub mod IndexSpaces

@@ -13,7 +13,7 @@ use Rattle.interface.specs.declared.exports.ExportType.{ExportType}
 use Rattle.interface.specs.declared.exports.Exports.{Exports}
 use Rattle.interface.specs.declared.imports.ImportType.{ImportType}
 use Rattle.interface.specs.declared.imports.Imports.{Imports}
-use Rattle.interface.specs.declared.index_spaces.IndexSpaces.{IndexSpaces}
+use Rattle.index_spaces.specs.declared.IndexSpaces.{IndexSpaces}
 
 -- ---- exports
 

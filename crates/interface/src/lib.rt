@@ -1,9 +1,8 @@
-//! What a module imports and exports: its index spaces, and lists of imports and exports with their types.
+//! Lists of what a module imports and exports, with their types.
 #![tactic(auto)]
 
 mod exports;
 mod imports;
-mod index_spaces;
 mod modules;
 mod types;
 

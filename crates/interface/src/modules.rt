@@ -6,9 +6,9 @@ ghost use Rattle.interface.specs.Types.{function_at, type_among};
 
 use crate::exports::{Exports, Listing};
 use crate::imports::{ImportListing, Imports};
-use crate::index_spaces::IndexSpaces;
 use crate::types::Declaration;
 use core_types::{Export, ExportDesc, ExternType, FuncType, Import, ImportDesc, Module, item};
+use index_spaces::IndexSpaces;
 use std::alloc::{AllocError, Global};
 
 // Returns the type of this index as the type of a function, if there is one.

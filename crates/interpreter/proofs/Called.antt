@@ -30,8 +30,8 @@ use Rattle.interpreter.specs.Calling.{Calls, CallsInModule, CallsModule, Replace
 use Rattle.interpreter.specs.Layout.{put_back}
 use Rattle.interpreter.specs.Looping.{loop_at, machine_at}
 use Rattle.interpreter.specs.Running.{Machine, RunsAt, cells_in, height_in}
-use Rattle.interpreter.specs.Turns.{CallsByName, CallsThrough, CostsOne, Fits, FitsTable, Turns, entry_through, function_address, type_of}
-use Rattle.interpreter.specs.Whole.{AsksNext, LacksCells, Loop, OpensNext, Reaches, RunsSomeWhole, RunsWhole, StopsAt, Whole, whole}
+use Rattle.interpreter.specs.Operations.{CallsByName, CallsThrough, CostsOne, IsReadyFor, IsReadyForCallThrough, Executes, entry_through, function_address, type_of}
+use Rattle.interpreter.specs.Whole.{AsksNext, LacksCells, Loop, OpensNext, LoopReaches, RunsSomeWhole, RunsWhole, StopsAt, Whole, whole}
 use Rattle.interpreter.specs.Worlds.{World, store_in}
 use Rattle.interpreter.specs.declared.callees.Found.{Found}
 use Rattle.interpreter.specs.declared.machine.CallKind.{CallKind}
@@ -106,7 +106,7 @@ module _ (bound : ℕ) (w : World) (cells : List ℕ) (callers : List Frame) (at
 
     -- The whole, after labels were left.
     module _ (u : Whole) (r : RunsWhole bound l u) (c : ReachesCall op address function u.ghost (cells_in u.ghost m) m.place (height_in m) height) where
-      abbrev settles : Reaches bound l u l
+      abbrev settles : LoopReaches bound l u l
       settles = lifted-there bound l u r at.fuel (record { new = c.new; same = c.same; store = c.store; steps = c.steps at.fuel; runs = c.runs })
 
       -- The frame has the same number of locals then.
@@ -159,7 +159,7 @@ module _ (bound : ℕ) (w : World) (cells : List ℕ) (callers : List Frame) (at
         abbrev c : IsCalling op address function u.ghost (cells_in u.ghost m) m.place (height_in m) height
         c = calls u.ghost r.runs
 
-        abbrev nested : Reaches bound l u l
+        abbrev nested : LoopReaches bound l u l
         nested = settles u r c.reached
 
         opens : 1 ≤ at.fuel → OpensNext (store_in w) at.fuel nested.new
@@ -216,7 +216,7 @@ module _ (bound : ℕ) (w : World) (cells : List ℕ) (callers : List Frame) (at
         abbrev tail_call : IsTailCalling op address function u.ghost (cells_in u.ghost m) m.place (height_in m) height
         tail_call = calls u.ghost r.runs
 
-        abbrev last : Reaches bound l u l
+        abbrev last : LoopReaches bound l u l
         last = settles u r tail_call.reached
 
         asks-to-replace : 1 ≤ at.fuel → AsksNext bound (store_in w) at.fuel last.new
@@ -291,21 +291,21 @@ module _ (bound : ℕ) (w : World) (cells : List ℕ) (callers : List Frame) (at
   calls-found kind some (callee.InHost f) is k = (k.inside, calls-host kind f k)
 
 -- What a call, of either kind, leads to.
-by-name-leads : (kind : CallKind) (w : World) (m : Machine) (n : ℕ) → Turns w m (operation_by_name kind n) → (g : Ghost) → RunsAt w m g → CallsByName kind w m g n × CostsOne g m
-by-name-leads Nested w m n turns g r = turns g r
-by-name-leads Tail w m n turns g r = turns g r
+by-name-leads : (kind : CallKind) (w : World) (m : Machine) (n : ℕ) → Executes w m (operation_by_name kind n) → (g : Ghost) → RunsAt w m g → CallsByName kind w m g n × CostsOne g m
+by-name-leads Nested w m n executes g r = executes g r
+by-name-leads Tail w m n executes g r = executes g r
 
-through-leads : (kind : CallKind) (w : World) (m : Machine) (n : ℕ) → Turns w m (op.Transfer (transfer_through kind) n) → (g : Ghost) → RunsAt w m g
+through-leads : (kind : CallKind) (w : World) (m : Machine) (n : ℕ) → Executes w m (op.Transfer (transfer_through kind) n) → (g : Ghost) → RunsAt w m g
     → CallsThrough kind w m g (pair_of w.flat.tables n).first (pair_of w.flat.tables n).second × CostsOne g m
-through-leads Nested w m n turns g r = turns g r
-through-leads Tail w m n turns g r = turns g r
+through-leads Nested w m n executes g r = executes g r
+through-leads Tail w m n executes g r = executes g r
 
 -- What the call needs.
-pub by-name-fits : (kind : CallKind) (w : World) (m : Machine) (n : ℕ) → Fits w m (operation_by_name kind n) → n < length w.instance.addresses.functions.items
+pub by-name-fits : (kind : CallKind) (w : World) (m : Machine) (n : ℕ) → IsReadyFor w m (operation_by_name kind n) → n < length w.instance.addresses.functions.items
 by-name-fits Nested w m n fits = fits
 by-name-fits Tail w m n fits = fits
 
-pub through-fits : (kind : CallKind) (w : World) (m : Machine) (n : ℕ) → Fits w m (op.Transfer (transfer_through kind) n) → FitsTable w m n
+pub through-fits : (kind : CallKind) (w : World) (m : Machine) (n : ℕ) → IsReadyFor w m (op.Transfer (transfer_through kind) n) → IsReadyForCallThrough w m n
 through-fits Nested w m n fits = fits
 through-fits Tail w m n fits = fits
 
@@ -318,13 +318,13 @@ module _ (bound : ℕ) (w : World) (cells : List ℕ) (callers : List Frame) (at
 
   -- ---- by an index
 
-  module _ (x : ℕ) (turns : Turns w (machine_at cells at) (operation_by_name kind x)) where
+  module _ (x : ℕ) (executes : Executes w (machine_at cells at) (operation_by_name kind x)) where
     pub call-lacks : at.fuel ≡ 0 → StopsAt bound loop stop.NoFuel loop
-    call-lacks none = stops-empty bound loop (λ g r. (by-name-leads kind w its x turns g r).1) none
+    call-lacks none = stops-empty bound loop (λ g r. (by-name-leads kind w its x executes g r).1) none
 
     pub call-within : RunsSomeWhole bound loop → (address : ℕ) → address ≡ function_address w x → address < length w.code.functions
     call-within (u, r) address is =
-        let (function, named, calls) = (by-name-leads kind w its x turns u.ghost r.runs).0 in
+        let (function, named, calls) = (by-name-leads kind w its x executes u.ghost r.runs).0 in
         subst (λ (a : ℕ). a < length w.code.functions) (sym is) (within-code w.code (function_address w x) function named)
 
     pub call-calls : RunsSomeWhole bound loop → (address : ℕ) → address ≡ function_address w x → (found : Callee) → IsCalleeAt w.code address found
@@ -337,7 +337,7 @@ module _ (bound : ℕ) (w : World) (cells : List ℕ) (callers : List Frame) (at
           inside = inside w its u.ghost r.runs;
           same = λ g s. refl;
           calls = λ g s.
-              let (function, named, calls) = (by-name-leads kind w its x turns g s).0 in
+              let (function, named, calls) = (by-name-leads kind w its x executes g s).0 in
               let one : function ≡ callee_function found = same_Some function (callee_function found) (sym named ∙ ap (slice_get (functions_in w.code)) (sym is) ∙ there.there) in
               subst (λ (a : ℕ). IsCalled kind (by_name kind x) a (callee_function found) g (cells_in g its) its.place (height_in its) (height_in its)) (sym is)
               (subst (λ (i : FunctionInstance). IsCalled kind (by_name kind x) (function_address w x) i g (cells_in g its) its.place (height_in its) (height_in its)) one calls);
@@ -369,11 +369,11 @@ module _ (bound : ℕ) (w : World) (cells : List ℕ) (callers : List Frame) (at
 
   -- ---- through a table
 
-  module _ (n : ℕ) (turns : Turns w (machine_at cells at) (op.Transfer (transfer_through kind) n)) where
+  module _ (n : ℕ) (executes : Executes w (machine_at cells at) (op.Transfer (transfer_through kind) n)) where
     pub through-lacks : (why : Stop) → (why ≡ stop.NoFuel) × (at.fuel ≡ 0) → StopsAt bound loop why loop
-    through-lacks why (is, none) = subst (λ (s : Stop). StopsAt bound loop s loop) (sym is) (stops-empty bound loop (λ g r. (through-leads kind w its n turns g r).1) none)
+    through-lacks why (is, none) = subst (λ (s : Stop). StopsAt bound loop s loop) (sym is) (stops-empty bound loop (λ g r. (through-leads kind w its n executes g r).1) none)
 
-  module _ (n : ℕ) (turns : Turns w (machine_at cells at) (op.Transfer (transfer_through kind) n)) (pair : IndexPair) (pair_is : pair ≡ pair_of w.flat.tables n) where
+  module _ (n : ℕ) (executes : Executes w (machine_at cells at) (op.Transfer (transfer_through kind) n)) (pair : IndexPair) (pair_is : pair ≡ pair_of w.flat.tables n) where
     abbrev type : ℕ
     type = pair.first
 
@@ -384,7 +384,7 @@ module _ (bound : ℕ) (w : World) (cells : List ℕ) (callers : List Frame) (at
     entry = entry_through w.instance w.state x at.operand
 
     through : (g : Ghost) → RunsAt w its g → CallsThrough kind w its g type x
-    through g r = subst (λ (p : IndexPair). CallsThrough kind w its g p.first p.second) (sym pair_is) (through-leads kind w its n turns g r).0
+    through g r = subst (λ (p : IndexPair). CallsThrough kind w its g p.first p.second) (sym pair_is) (through-leads kind w its n executes g r).0
 
     -- The functions are those of the code.
     found-in : (g : Ghost) → RunsAt w its g → (address : ℕ) → slice_get (functions_in w.code) address ≡ slice_get g.store.functions address

@@ -21,7 +21,7 @@ use Rattle.simulation.proofs.TableCalls.{calls-through, tail-calls-through}
 use Rattle.store.specs.Contents.{Contents, IsCalleeAt, callee_function, function_at, functions_in}
 use Rattle.interpreter.specs.Callees.{FindsEntry, IsCalled, RefersToFunction, by_name, through_table}
 use Rattle.interpreter.specs.Running.{Machine, RunsAt, cells_in, height_in}
-use Rattle.interpreter.specs.Turns.{CallsByName, CallsThrough, CostsOne, function_address, table_address}
+use Rattle.interpreter.specs.Operations.{CallsByName, CallsThrough, CostsOne, function_address, table_address}
 use Rattle.interpreter.specs.Worlds.{World}
 use Rattle.interpreter.specs.declared.callees.Found.{Found}
 use Rattle.interpreter.specs.declared.machine.CallKind.{CallKind}

@@ -4,13 +4,13 @@ use Rattle.std.proofs.lemmas.List.{length-set, take-set-le}
 use Rattle.sidetable.specs.Flat.{Br, BrIf, BrTable, Enter, If, Jump}
 use Rattle.sidetable.specs.declared.operations.Entry.{Entry}
 use Rattle.simulation.specs.Operations.{IsCharged, IsLanded}
-use Rattle.simulation.specs.Runs.{Ghost, Leads}
+use Rattle.simulation.specs.Runs.{Ghost, FrameReaches}
 use Rattle.simulation.proofs.BranchTables.{branches-table}
 use Rattle.simulation.proofs.Branches.{branches-if, branches-on}
 use Rattle.simulation.proofs.Control.{enters}
 use Rattle.simulation.proofs.Ifs.{chooses, jump-later, jumps-on}
-use Rattle.interpreter.specs.Running.{GoesFree, IsDear, Machine, Pays, RunsAt, cells_in, height_in}
-use Rattle.interpreter.specs.Turns.{Costs, HasKept, Lands, popped}
+use Rattle.interpreter.specs.Running.{ReachesForFree, IsDear, Machine, Pays, RunsAt, cells_in, height_in}
+use Rattle.interpreter.specs.Operations.{Costs, HasKept, Lands, popped}
 use Rattle.interpreter.specs.Worlds.{World}
 use Rattle.interpreter.proofs.Forms.{HasOwn, IsAt, charged, has-operands, inside, lands, lower, pops, stays, topmost}
 use Rattle.interpreter.proofs.Operands.{charged-low, condition-low, either-way}
@@ -21,11 +21,11 @@ module _ (w : World) (m : Machine) (g : Ghost) (r : RunsAt w m g) where
       let c = enters g (cells_in g m) m.place (height_in m) b in
       (stays w m g r (m.place + 1) (charged w m g r (m.place + 1) (height_in m) (suc m.place) (omega arith) c), c.1)
 
-  pub jumps-there : (e : Entry) → IsAt m g (Jump e) → (m.place < e.target) × GoesFree g m w (record m { place = e.target })
+  pub jumps-there : (e : Entry) → IsAt m g (Jump e) → (m.place < e.target) × ReachesForFree g m w (record m { place = e.target })
   jumps-there e b = (
     jump-later g (cells_in g m) m.place (height_in m) e b,
     λ fuel. record {
-      leads = subst (λ s. Leads g fuel s (cells_in g m) e.target (height_in m) fuel) r.store (jumps-on g (cells_in g m) m.place (height_in m) e b fuel);
+      leads = subst (λ s. FrameReaches g fuel s (cells_in g m) e.target (height_in m) fuel) r.store (jumps-on g (cells_in g m) m.place (height_in m) e b fuel);
       low = r.low;
       size = refl;
       below = refl;

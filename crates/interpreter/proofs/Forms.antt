@@ -11,11 +11,11 @@ use Rattle.sidetable.specs.declared.counts.Counts.{Counts}
 use Rattle.sidetable.specs.declared.operations.Entry.{Entry}
 use Rattle.simulation.specs.Instructions.{IsAnswered, IsKept, IsPut}
 use Rattle.simulation.specs.Operations.{IsCharged, IsLanded}
-use Rattle.simulation.specs.Runs.{Ghost, IsBefore, Leads}
+use Rattle.simulation.specs.Runs.{Ghost, IsBefore, FrameReaches}
 use Rattle.simulation.proofs.Plain.{top-within}
 use Rattle.interpreter.specs.Layout.{AreMoved, put_back, without_scrap}
 use Rattle.interpreter.specs.Running.{Machine, Pays, RunsAt, cells_in, height_in}
-use Rattle.interpreter.specs.Turns.{Answers, HasOperands, Lands, pushed}
+use Rattle.interpreter.specs.Operations.{Answers, HasOperands, Lands, pushed}
 use Rattle.interpreter.specs.Worlds.{World, store_in}
 use Rattle.interpreter.proofs.Cells.{at-top, below-top, frame-length, popped-frame, to-top, under-top}
 use Rattle.interpreter.proofs.Moves.{moved-below, moved-frame}
@@ -23,7 +23,7 @@ use Rattle.interpreter.proofs.Operands.{takes-operands}
 
 -- Steps to cells are steps to those that are the same up to the top.
 leads-same : (g : Ghost) (fuel : ℕ) (store' : Store) (cells cells' : List ℕ) (at top left : ℕ) → take top cells' ≡ take top cells → length cells'
-    ≡ length cells → Leads g fuel store' cells at top left → Leads g fuel store' cells' at top left
+    ≡ length cells → FrameReaches g fuel store' cells at top left → FrameReaches g fuel store' cells' at top left
 leads-same g fuel store' cells cells' at top left same size l = record {
   new = l.new;
   same = l.same;
@@ -82,7 +82,7 @@ module _ (w : World) (m : Machine) (g : Ghost) (r : RunsAt w m g) where
   -- With cells that begin with these, at a place and a height, for one unit of fuel.
   abbrev GoesOn : Store → (firsts : List ℕ) → (place height : ℕ) → Type 0
   GoesOn store' firsts place height =
-      (cells' : List ℕ) (fuel left : ℕ) → take height cells' ≡ firsts → length cells' ≡ length (cells_in g m) → 1 ≤ fuel → left ≡ fuel - 1 → Leads g fuel store' cells' place height left
+      (cells' : List ℕ) (fuel left : ℕ) → take height cells' ≡ firsts → length cells' ≡ length (cells_in g m) → 1 ≤ fuel → left ≡ fuel - 1 → FrameReaches g fuel store' cells' place height left
 
   from-store : (firsts : List ℕ) (place height : ℕ) → GoesOn g.store firsts place height → GoesOn (store_in w) firsts place height
   from-store firsts place height = subst (λ (s : Store). GoesOn s firsts place height) r.store
@@ -101,7 +101,7 @@ module _ (w : World) (m : Machine) (g : Ghost) (r : RunsAt w m g) where
   charged place height next_at is c = from-store _ _ _
       (λ cells' fuel left same as_many enough left_is.
       leads-same g fuel g.store (cells_in g m) cells' place height left same as_many
-      (subst (λ (n : ℕ). Leads g fuel g.store (cells_in g m) n height left) (sym is) (c.0 fuel left enough left_is)))
+      (subst (λ (n : ℕ). FrameReaches g fuel g.store (cells_in g m) n height left) (sym is) (c.0 fuel left enough left_is)))
 
   -- The machine's cells begin with these.
   pub pays : (w' : World) (cells' : List ℕ) (place top operand height : ℕ) (firsts : List ℕ) → GoesOn (store_in w') firsts place height → top ≡ m.base + height → g.code.locals ≤ height
@@ -111,7 +111,7 @@ module _ (w : World) (m : Machine) (g : Ghost) (r : RunsAt w m g) where
       let written = length-set cells' top operand in
       let whole = frame-length g.code.locals m.base (set cells' top operand) (omega (arith, written, as_many, r.scrap)) in
       let height_is : height ≡ top - m.base = omega (arith, top_is) in record {
-        leads = subst (λ (n : ℕ). Leads g fuel (store_in w') (put_back g.code.locals m.base cells' top operand) place n left) height_is
+        leads = subst (λ (n : ℕ). FrameReaches g fuel (store_in w') (put_back g.code.locals m.base cells' top operand) place n left) height_is
             (on (put_back g.code.locals m.base cells' top operand) fuel left is (omega (arith, written, whole, as_many, size)) enough left_is);
         low = omega (arith, top_is, low);
         size = as_many;

@@ -17,7 +17,7 @@ use Rattle.simulation.proofs.Numbers.{puts-i32, puts-i64}
 use Rattle.simulation.proofs.Variables.{gets-local, sets-local, tees-local}
 use Rattle.interpreter.specs.Layout.{put_back, without_scrap}
 use Rattle.interpreter.specs.Running.{IsDear, Machine, Pays, RunsAt, Traps, cells_in, height_in}
-use Rattle.interpreter.specs.Turns.{Costs, lowered, popped, pushed, replaced, second_of, third_of, with_local}
+use Rattle.interpreter.specs.Operations.{Costs, lowered, popped, pushed, replaced, second_of, third_of, with_local}
 use Rattle.interpreter.specs.Worlds.{World}
 use Rattle.interpreter.proofs.Cells.{local-cell, local-put_back, local-set, popped-frame}
 use Rattle.interpreter.proofs.Forms.{HasOwn, IsAt, charged, inside, kept, lower, pays, pops, pushes, puts, stays, takes, topmost, under}

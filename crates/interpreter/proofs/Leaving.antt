@@ -20,7 +20,7 @@ use Rattle.interpreter.specs.Calling.{Leaves, position_resumed}
 use Rattle.interpreter.specs.Layout.{AreMoved}
 use Rattle.interpreter.specs.Looping.{loop_at, machine_at}
 use Rattle.interpreter.specs.Running.{Machine}
-use Rattle.interpreter.specs.Whole.{HasResults, IsOver, Loop, Reaches, RunsSomeWhole, RunsWhole, SwitchesTo, Whole}
+use Rattle.interpreter.specs.Whole.{HasResults, IsOver, Loop, LoopReaches, RunsSomeWhole, RunsWhole, SwitchesTo, Whole}
 use Rattle.interpreter.specs.Worlds.{World, store_in}
 use Rattle.interpreter.specs.declared.machine.Frame.{Frame}
 use Rattle.interpreter.specs.declared.machine.Position.{Position}
@@ -79,7 +79,7 @@ module _ (bound : ℕ) (w : World) (cells : List ℕ) (at : Position) (fuel : �
   -- The whole arrives where one step leaves its frame, with that many results.
   abbrev pub CanLeave : (callers : List Frame) → (cost results : ℕ) → Type 0
   CanLeave callers cost results =
-      (u : Whole) → RunsWhole bound (before callers) u → (s : Reaches bound (before callers) u (before callers)) × IsLeft cost s.new.ghost × (results ≡ s.new.ghost.code.outermost.kept)
+      (u : Whole) → RunsWhole bound (before callers) u → (s : LoopReaches bound (before callers) u (before callers)) × IsLeft cost s.new.ghost × (results ≡ s.new.ghost.code.outermost.kept)
 
   module _ (cost results : ℕ) (paid : cost ≤ fuel) (left_is : at.fuel ≡ fuel - cost) where
     over-from : (h : Ghost) (cs : List Caller) (all_results : List ValType)

@@ -26,6 +26,6 @@ pub mod Spare
 pub mod Stepping
 pub mod Switching
 pub mod Transferring
-pub mod Turning
+pub mod Executing
 pub mod Waiting
 pub mod Worlds

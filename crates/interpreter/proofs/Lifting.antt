@@ -18,14 +18,14 @@ use Rattle.soundness.proofs.Steps.{stays-good}
 use Rattle.sidetable.specs.FlatModules.{operations_of}
 use Rattle.simulation.specs.Callees.{CostsAround}
 use Rattle.simulation.specs.Calls.{activation_of, around}
-use Rattle.simulation.specs.Runs.{Fails, Ghost, Lacks, Leads, Runs, StepsIn, config_of, frame_of}
+use Rattle.simulation.specs.Runs.{Fails, Ghost, Lacks, FrameReaches, Runs, StepsIn, config_of, frame_of}
 use Rattle.simulation.specs.Standing.{FrameCode}
 use Rattle.simulation.proofs.Frames.{steps-lifted}
 use Rattle.store.specs.State.{StateContents}
 use Rattle.interpreter.specs.Callers.{Caller, CallersStand, layers_around}
 use Rattle.interpreter.specs.Layout.{put_back}
-use Rattle.interpreter.specs.Running.{GoesTo, Machine, RunsAt, cells_in, height_in}
-use Rattle.interpreter.specs.Whole.{Loop, Ran, Reaches, RunsWhole, StopsAt, StopsBy, StopsWhole, Whole, layers_of, left_to_do, paid_for, whole}
+use Rattle.interpreter.specs.Running.{MachineReaches, Machine, RunsAt, cells_in, height_in}
+use Rattle.interpreter.specs.Whole.{Loop, Ran, LoopReaches, RunsWhole, StopsAt, StopsBy, StopsWhole, Whole, layers_of, left_to_do, paid_for, whole}
 use Rattle.interpreter.specs.Worlds.{IsInstance, World, store_in}
 use Rattle.interpreter.specs.declared.machine.Stop.{Stop}
 use Rattle.interpreter.specs.declared.machine.Stop.TheVariants as stop
@@ -109,7 +109,7 @@ module _ (bound : ℕ) (results : List ValType) where
 
 -- What the frame leads to runs there.
 pub runs-then : (w : World) (m : Machine) (g : Ghost) → RunsAt w m g → (w' : World) → w'.number ≡ w.number → w'.flat ≡ w.flat → IsInstance w' → (cells' : List ℕ) (place top operand fuel left : ℕ)
-    → (led : GoesTo g m fuel w' (record m { cells = cells'; place = place; top = top; operand = operand }) left)
+    → (led : MachineReaches g m fuel w' (record m { cells = cells'; place = place; top = top; operand = operand }) left)
     → RunsAt w' (record m { cells = cells'; place = place; top = top; operand = operand }) led.leads.new
 runs-then w m g r w' number flat instance cells' place top operand fuel left led =
     let l = led.leads in
@@ -139,7 +139,7 @@ abbrev pub with_ghost : Whole → Ghost → Whole
 with_ghost w g = record w { ghost = g }
 
 -- The same with the store that the loop has.
-abbrev leads-there : (g : Ghost) (s : Store) (fuel : ℕ) (cells : List ℕ) (at top left : ℕ) → g.store ≡ s → Leads g fuel g.store cells at top left → Leads g fuel s cells at top left
+abbrev leads-there : (g : Ghost) (s : Store) (fuel : ℕ) (cells : List ℕ) (at top left : ℕ) → g.store ≡ s → FrameReaches g fuel g.store cells at top left → FrameReaches g fuel s cells at top left
 leads-there g s fuel cells at top left is l = record {
   new = l.new;
   same = l.same;
@@ -150,8 +150,8 @@ leads-there g s fuel cells at top left is l = record {
 
 module _ (bound : ℕ) (l : Loop) (w : Whole) (r : RunsWhole bound l w) where
   abbrev pub lifted : (state' : StateContents) (bytes' cells' : List ℕ) (place' top' operand' left' : ℕ)
-      → GoesTo w.ghost l.machine l.fuel (turned l state' bytes' cells' place' top' operand' left').world (turned l state' bytes' cells' place' top' operand' left').machine left'
-      → Reaches bound l w (turned l state' bytes' cells' place' top' operand' left')
+      → MachineReaches w.ghost l.machine l.fuel (turned l state' bytes' cells' place' top' operand' left').world (turned l state' bytes' cells' place' top' operand' left').machine left'
+      → LoopReaches bound l w (turned l state' bytes' cells' place' top' operand' left')
   lifted state' bytes' cells' place' top' operand' left' led =
       let l' = turned l state' bytes' cells' place' top' operand' left' in
       let h = led.leads.new in
@@ -185,7 +185,8 @@ module _ (bound : ℕ) (l : Loop) (w : Whole) (r : RunsWhole bound l w) where
       }
 
   -- The frame continues to where the loop is.
-  abbrev pub lifted-there : (left : ℕ) → Leads w.ghost l.fuel w.ghost.store (cells_in w.ghost l.machine) l.machine.place (height_in l.machine) left → Reaches bound l w (record l { fuel = left })
+  abbrev pub lifted-there : (left : ℕ) → FrameReaches w.ghost l.fuel w.ghost.store (cells_in w.ghost l.machine) l.machine.place (height_in l.machine) left
+      → LoopReaches bound l w (record l { fuel = left })
   lifted-there left leads =
       lifted l.world.state l.world.bytes l.machine.cells l.machine.place l.machine.top l.machine.operand left
       (record {
@@ -197,7 +198,7 @@ module _ (bound : ℕ) (l : Loop) (w : Whole) (r : RunsWhole bound l w) where
       })
 
   -- If the next step in the frame costs more than is left, so does the next step of the whole.
-  pub lacks-whole : Lacks w.ghost l.fuel (cells_in w.ghost l.machine) l.machine.place (height_in l.machine) l.fuel → (there : Reaches bound l w l)
+  pub lacks-whole : Lacks w.ghost l.fuel (cells_in w.ghost l.machine) l.machine.place (height_in l.machine) l.fuel → (there : LoopReaches bound l w l)
       × (l.fuel < price (next (store_in l.world) no_frame (whole there.new)))
   lacks-whole lacks =
       let there = lifted-there l.fuel lacks.leads in
@@ -211,7 +212,7 @@ module _ (bound : ℕ) (l : Loop) (w : Whole) (r : RunsWhole bound l w) where
 
   -- The same for a step that costs one unit of fuel in any frame around it.
   pub lacks-around : CostsAround w.ghost (cells_in w.ghost l.machine) l.machine.place (height_in l.machine) → l.fuel ≡ 0
-      → (there : Reaches bound l w l) × (l.fuel < price (next (store_in l.world) no_frame (whole there.new)))
+      → (there : LoopReaches bound l w l) × (l.fuel < price (next (store_in l.world) no_frame (whole there.new)))
   lacks-around costs empty =
       let there = lifted-there l.fuel (record { new = costs.new; same = costs.same; store = costs.store; steps = costs.steps l.fuel; runs = costs.runs }) in
       let h = costs.new in (
@@ -223,7 +224,7 @@ module _ (bound : ℕ) (l : Loop) (w : Whole) (r : RunsWhole bound l w) where
 
   -- The same for a trap.
   pub fails-whole : (left : ℕ) (trap : Trap) → Fails w.ghost l.fuel (cells_in w.ghost l.machine) l.machine.place (height_in l.machine) left trap
-      → (there : Reaches bound l w (record l { fuel = left + 1 })) × (next (store_in l.world) no_frame (whole there.new) ≡ Traps 1 trap)
+      → (there : LoopReaches bound l w (record l { fuel = left + 1 })) × (next (store_in l.world) no_frame (whole there.new) ≡ Traps 1 trap)
   fails-whole left trap fails =
       let there = lifted-there (left + 1) fails.leads in
       let h = fails.leads.new in (
@@ -236,7 +237,7 @@ module _ (bound : ℕ) (l : Loop) (w : Whole) (r : RunsWhole bound l w) where
 -- ---- runs of the whole
 
 module _ (bound : ℕ) where
-  abbrev pub reaches-then : (l l' l'' : Loop) (w : Whole) (first : Reaches bound l w l') → Reaches bound l' first.new l'' → Reaches bound l w l''
+  abbrev pub reaches-then : (l l' l'' : Loop) (w : Whole) (first : LoopReaches bound l w l') → LoopReaches bound l' first.new l'' → LoopReaches bound l w l''
   reaches-then l l' l'' w first second = record {
     new = second.new;
     results = second.results ∙ first.results;
@@ -245,7 +246,7 @@ module _ (bound : ℕ) where
   }
 
   -- A run has arrived where it starts.
-  abbrev pub reaches-first : (l : Loop) (w : Whole) → RunsWhole bound l w → Reaches bound l w l
+  abbrev pub reaches-first : (l : Loop) (w : Whole) → RunsWhole bound l w → LoopReaches bound l w l
   reaches-first l w r = record { new = w; results = refl; steps = none; runs = r }
 
   pub ran-first : (l : Loop) → Ran bound l l
@@ -255,17 +256,17 @@ module _ (bound : ℕ) where
   ran-then l l' l'' first second = record { from = λ w r. let f = first.from w r in reaches-then l l' l'' w f (second.from f.new f.runs); falls = omega (arith, first.falls, second.falls) }
 
   -- The loop stops where nothing was paid for the next step.
-  pub stops-unpaid : (s : Stop) → paid_for s ≡ 0 → (l l' : Loop) (w : Whole) (there : Reaches bound l w l')
+  pub stops-unpaid : (s : Stop) → paid_for s ≡ 0 → (l l' : Loop) (w : Whole) (there : LoopReaches bound l w l')
       → StopsBy bound s l'.world (store_in l'.world) l'.fuel l'.machine there.new → StopsWhole bound l w s l'
   stops-unpaid s none_paid l l' w there by =
       let same : l'.fuel ≡ l'.fuel + paid_for s = omega (arith, none_paid) in
-      let both = subst (λ (n : ℕ). (t : Reaches bound l w (record l' { fuel = n })) × StopsBy bound s l'.world (store_in l'.world) n l'.machine t.new) same (there, by) in
+      let both = subst (λ (n : ℕ). (t : LoopReaches bound l w (record l' { fuel = n })) × StopsBy bound s l'.world (store_in l'.world) n l'.machine t.new) same (there, by) in
       record { there = both.0; by = both.1 }
 
   -- An operation continues in the frame, whatever runs there.
   pub ran-turned : (l : Loop) (state' : StateContents) (bytes' cells' : List ℕ) (place' top' operand' left' : ℕ)
       → ((g : Ghost) → RunsAt l.world l.machine g
-      → GoesTo g l.machine l.fuel (turned l state' bytes' cells' place' top' operand' left').world
+      → MachineReaches g l.machine l.fuel (turned l state' bytes' cells' place' top' operand' left').world
       (turned l state' bytes' cells' place' top' operand' left').machine left')
       → left_to_do (turned l state' bytes' cells' place' top' operand' left') ≤ left_to_do l → Ran bound l (turned l state' bytes' cells' place' top' operand' left')
   ran-turned l state' bytes' cells' place' top' operand' left' step falls =

@@ -14,10 +14,10 @@ use Rattle.store.specs.State.{StateContents}
 use Rattle.interpreter.specs.Calling.{Leaves}
 use Rattle.interpreter.specs.Layout.{AreMoved}
 use Rattle.interpreter.specs.Looping.{loop_at, machine_at}
-use Rattle.interpreter.specs.Running.{GoesTo, IsDear, Pays, RunsAt, Traps}
+use Rattle.interpreter.specs.Running.{MachineReaches, IsDear, Pays, RunsAt, Traps}
 use Rattle.interpreter.specs.Stepping.{StepsTo, StopsBefore, StopsThere}
-use Rattle.interpreter.specs.Turns.{Lands, LeadsOn, Turns}
-use Rattle.interpreter.specs.Whole.{FallsAt, HasResults, Loop, Ran, Reaches, RunsSomeWhole, StopsAt, StopsFrom, Whole, left_to_do}
+use Rattle.interpreter.specs.Operations.{Lands, ExecutesIn, Executes}
+use Rattle.interpreter.specs.Whole.{FallsAt, HasResults, Loop, Ran, LoopReaches, RunsSomeWhole, StopsAt, StopsFrom, Whole, left_to_do}
 use Rattle.interpreter.specs.Worlds.{World, store_in}
 use Rattle.interpreter.specs.declared.machine.Frame.{Frame}
 use Rattle.interpreter.specs.declared.machine.Position.{Position}
@@ -27,7 +27,7 @@ use Rattle.interpreter.proofs.Lifting.{ran-then, ran-turned, reaches-first, reac
 use Rattle.interpreter.proofs.Returning.{end-leaves}
 
 -- If the loop stops after a run, it stops from the start of the run.
-stops-from : (bound : ℕ) (l l' l'' : Loop) (s : Stop) (w : Whole) (first : Reaches bound l w l') → StopsFrom bound l' first.new s l'' → StopsFrom bound l w s l''
+stops-from : (bound : ℕ) (l l' l'' : Loop) (s : Stop) (w : Whole) (first : LoopReaches bound l w l') → StopsFrom bound l' first.new s l'' → StopsFrom bound l w s l''
 stops-from bound l l' l'' stop.Over w first last = record {
   values = last.values;
   steps = Steps-join NoHosts bound no_frame first.steps last.steps;
@@ -57,13 +57,13 @@ module _ (bound : ℕ) (start l : Loop) (ran : Ran bound start l) where
   pub some-there : RunsSomeWhole bound start → RunsSomeWhole bound l
   some-there (w, r) = let there = ran.from w r in (there.new, there.runs)
 
-  module _ (o o' : PackedOp) (turns : Turns l.world l.machine o) (is : o ≡ o') where
-    leads : (g : Ghost) → RunsAt l.world l.machine g → LeadsOn l.world l.machine g o'
-    leads = subst (Turns l.world l.machine) is turns
+  module _ (o o' : PackedOp) (executes : Executes l.world l.machine o) (is : o ≡ o') where
+    leads : (g : Ghost) → RunsAt l.world l.machine g → ExecutesIn l.world l.machine g o'
+    leads = subst (Executes l.world l.machine) is executes
 
     -- The operation was paid for.
     pub pays-op : (state' : StateContents) (bytes' cells' : List ℕ) (place' top' operand' : ℕ) → 1 ≤ l.fuel
-        → ((g : Ghost) → LeadsOn l.world l.machine g o'
+        → ((g : Ghost) → ExecutesIn l.world l.machine g o'
         → Pays g l.machine (turned l state' bytes' cells' place' top' operand' (l.fuel - 1)).world
         (turned l state' bytes' cells' place' top' operand' (l.fuel - 1)).machine)
         → Ran bound start (turned l state' bytes' cells' place' top' operand' (l.fuel - 1))
@@ -71,19 +71,19 @@ module _ (bound : ℕ) (start l : Loop) (ran : Ran bound start l) where
         ran-then bound start l _ ran (ran-turned bound l state' bytes' cells' place' top' operand' (l.fuel - 1) (λ g r. step g (leads g r) l.fuel (l.fuel - 1) paid refl) (omega (arith, paid)))
 
     -- The loop lacks fuel.
-    pub lacks-op : l.fuel ≡ 0 → ((g : Ghost) → LeadsOn l.world l.machine g o' → IsDear g l.machine) → StopsAt bound start stop.NoFuel l
+    pub lacks-op : l.fuel ≡ 0 → ((g : Ghost) → ExecutesIn l.world l.machine g o' → IsDear g l.machine) → StopsAt bound start stop.NoFuel l
     lacks-op none dear = stops-then bound start l l stop.NoFuel ran (stops-lacking bound l (λ g r. dear g (leads g r) l.fuel (omega (arith, none))))
 
     -- The operation traps, and was paid for.
-    pub fails-op : (trap : Trap) → 1 ≤ l.fuel → ((g : Ghost) → LeadsOn l.world l.machine g o' → Traps g l.machine trap) → StopsAt bound start (stop.Traps trap) (record l { fuel = l.fuel - 1 })
+    pub fails-op : (trap : Trap) → 1 ≤ l.fuel → ((g : Ghost) → ExecutesIn l.world l.machine g o' → Traps g l.machine trap) → StopsAt bound start (stop.Traps trap) (record l { fuel = l.fuel - 1 })
     fails-op trap paid fails = stops-then bound start l _ (stop.Traps trap) ran (stops-failing bound l (l.fuel - 1) trap (λ g r. fails g (leads g r) l.fuel (l.fuel - 1) paid refl))
 
   -- A branch that is taken goes to its entry.
-  pub branches-op : (o : PackedOp) (n : ℕ) (turns : Turns l.world l.machine o) (is : o ≡ op.BrIf n) → (e : Entry) → e ≡ entry_of_number l.world.flat.tables n → (cells' : List ℕ) (operand' : ℕ)
+  pub branches-op : (o : PackedOp) (n : ℕ) (executes : Executes l.world l.machine o) (is : o ≡ op.BrIf n) → (e : Entry) → e ≡ entry_of_number l.world.flat.tables n → (cells' : List ℕ) (operand' : ℕ)
       → AreMoved l.machine.cells (l.machine.top - 1) (l.machine.base + e.height) e.kept cells' operand' → 1 ≤ l.fuel → (l.machine.operand ≡ 0 → ⊥)
       → Ran bound start (turned l l.world.state l.world.bytes cells' e.target (l.machine.base + e.height + e.kept) operand' (l.fuel - 1))
-  branches-op o n turns is e e_is cells' operand' moved paid taken =
-      pays-op o (op.BrIf n) turns is l.world.state l.world.bytes cells' e.target (l.machine.base + e.height + e.kept) operand' paid
+  branches-op o n executes is e e_is cells' operand' moved paid taken =
+      pays-op o (op.BrIf n) executes is l.world.state l.world.bytes cells' e.target (l.machine.base + e.height + e.kept) operand' paid
       (λ g leads. subst (Lands l.world l.machine g l.machine.cells (l.machine.top - 1)) (sym e_is) (leads.1 taken) cells' operand' moved)
 
   -- The loop stops after an operation that can continue in another frame.
@@ -98,8 +98,8 @@ ran-at bound start w cells callers at to is ran = subst (λ (p : Position). Ran 
 
 module _ (bound : ℕ) (start : Loop) (w : World) (cells : List ℕ) (callers : List Frame) (at : Position) (ran : Ran bound start (loop_at w cells callers at)) where
   -- The end of the code leaves the frame.
-  pub leaves-op : RunsSomeWhole bound start → (o : PackedOp) (n : ℕ) → Turns w (machine_at cells at) o → o ≡ op.Leave n → Leaves bound w cells callers at at.fuel n
-  leaves-op some o n turns is = end-leaves bound w cells callers at n (subst (Turns w (machine_at cells at)) is turns) (some-there bound start (loop_at w cells callers at) ran some)
+  pub leaves-op : RunsSomeWhole bound start → (o : PackedOp) (n : ℕ) → Executes w (machine_at cells at) o → o ≡ op.Leave n → Leaves bound w cells callers at at.fuel n
+  leaves-op some o n executes is = end-leaves bound w cells callers at n (subst (Executes w (machine_at cells at)) is executes) (some-there bound start (loop_at w cells callers at) ran some)
 
   -- ---- rarer operations
 
@@ -110,7 +110,7 @@ module _ (bound : ℕ) (start : Loop) (w : World) (cells : List ℕ) (callers : 
       subst (λ (p : Position). Ran bound start (loop_at (record w { state = state'; bytes = bytes' }) cells' callers p)) (sym steps.there)
       (ran-then bound start (loop_at w cells callers at) _ ran (ran-turned bound (loop_at w cells callers at) state' bytes' cells' (at.place + 1) to.top to.operand to.fuel
       (λ g r. subst (λ (p : Position).
-      GoesTo g (machine_at cells at) at.fuel (record w { state = state'; bytes = bytes' }) (machine_at cells' p) to.fuel) steps.there
+      MachineReaches g (machine_at cells at) at.fuel (record w { state = state'; bytes = bytes' }) (machine_at cells' p) to.fuel) steps.there
       (steps.leads g r)) (omega (arith, steps.falls))))
 
   stays : (runs : (g : Ghost) × RunsAt w (machine_at cells at) g) (s : Stop)

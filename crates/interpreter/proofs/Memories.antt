@@ -23,7 +23,7 @@ use Rattle.simulation.proofs.Memories.{loads-number, measures-memory, stores-num
 use Rattle.simulation.proofs.Variables.{gets-global, sets-global}
 use Rattle.store.specs.State.{global_of}
 use Rattle.interpreter.specs.Running.{IsDear, Machine, Pays, RunsAt, cells_in, height_in}
-use Rattle.interpreter.specs.Turns.{Costs, IsWritten, Reads, Writes, function_address, global_address, popped, pushed, second_of, with_global_cell}
+use Rattle.interpreter.specs.Operations.{Costs, IsWritten, Reads, Writes, function_address, global_address, popped, pushed, second_of, with_global_cell}
 use Rattle.interpreter.specs.Worlds.{World, store_in}
 use Rattle.interpreter.proofs.Forms.{HasOwn, IsAt, answers, inside, kept, pops, pushes, takes, topmost, under}
 use Rattle.interpreter.proofs.Worlds.{GlobalThere, function-there, global-there, memory-there, with-global, with-memory}

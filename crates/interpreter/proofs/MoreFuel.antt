@@ -4,7 +4,7 @@ use Rattle.meaning.specs.execution.Configurations.{Configuration, no_frame}
 use Rattle.meaning.specs.execution.Runs.{IsStep, NoHosts, State, Steps, calls, goes, grows, none, one_more, opens}
 use Rattle.meaning.specs.execution.Store.{Store}
 use Rattle.interpreter.specs.Ahead.{StopsOrLacks, stop_with_more}
-use Rattle.interpreter.specs.Whole.{AsksNext, CallsHostNext, IsOver, Loop, OpensNext, Ran, Reaches, RunsWhole, StopsAt, StopsBy, StopsWhole, SwitchesTo, Whole, paid_for, with_more_fuel}
+use Rattle.interpreter.specs.Whole.{AsksNext, CallsHostNext, IsOver, Loop, OpensNext, Ran, LoopReaches, RunsWhole, StopsAt, StopsBy, StopsWhole, SwitchesTo, Whole, paid_for, with_more_fuel}
 use Rattle.interpreter.specs.Running.{Machine}
 use Rattle.interpreter.specs.Worlds.{store_in}
 use Rattle.interpreter.specs.declared.machine.CallKind.{CallKind}
@@ -29,7 +29,7 @@ module _ (bound k : ℕ) where
   pub runs-more : (l : Loop) (n : ℕ) (w : Whole) → RunsWhole bound l w → RunsWhole bound (record l { fuel = n }) w
   runs-more l n w r = record { runs = r.runs; number = r.number; callers = r.callers; arity = r.arity; deep = r.deep; typed = r.typed }
 
-  abbrev reaches-more : (l l' : Loop) (w : Whole) → Reaches bound l w l' → Reaches bound (with_more_fuel l k) w (with_more_fuel l' k)
+  abbrev reaches-more : (l l' : Loop) (w : Whole) → LoopReaches bound l w l' → LoopReaches bound (with_more_fuel l k) w (with_more_fuel l' k)
   reaches-more l l' w r = record { new = r.new; results = r.results; steps = steps-more r.steps; runs = runs-more l' (l'.fuel + k) r.new r.runs }
 
   less : (l : Loop) (w : Whole) → RunsWhole bound (with_more_fuel l k) w → RunsWhole bound l w
@@ -52,7 +52,7 @@ module _ (bound k : ℕ) where
       → StopsWhole bound (with_more_fuel l k) w s (with_more_fuel l' k)
   whole-more l l' w s stops by-more =
       let same : l'.fuel + paid_for s + k ≡ l'.fuel + k + paid_for s = omega arith in
-      let both = subst (λ (n : ℕ). (t : Reaches bound (with_more_fuel l k) w (record l' { fuel = n })) × StopsBy bound s l'.world (store_in l'.world) n l'.machine t.new) same
+      let both = subst (λ (n : ℕ). (t : LoopReaches bound (with_more_fuel l k) w (record l' { fuel = n })) × StopsBy bound s l'.world (store_in l'.world) n l'.machine t.new) same
       (reaches-more l (with_more_fuel l' (paid_for s)) w stops.there, by-more (l'.fuel + paid_for s) stops.there.new stops.by) in
       record { there = both.0; by = both.1 }
 
@@ -72,7 +72,7 @@ module _ (bound k : ℕ) where
   stops-more l l' stop.Over stops = record { from = λ w r. over-more l l' w (stops.from w (less l w r)); falls = tt }
   stops-more l l' stop.Switches stops = record { from = λ w r. switches-more l l' w (stops.from w (less l w r)); falls = let falls = stops.falls in omega (arith, falls) }
   stops-more l l' stop.NoFuel stops = ran-more l l' (record {
-    from = λ w r. let none : l'.fuel + 0 ≡ l'.fuel = omega arith in subst (λ (n : ℕ). Reaches bound l w (record l' { fuel = n })) none (stops.from w r).there;
+    from = λ w r. let none : l'.fuel + 0 ≡ l'.fuel = omega arith in subst (λ (n : ℕ). LoopReaches bound l w (record l' { fuel = n })) none (stops.from w r).there;
     falls = stops.falls;
   })
   stops-more l l' (stop.Traps trap) stops = record {

@@ -22,7 +22,7 @@ use Rattle.sidetable.specs.declared.operations.UnaryInstruction.TheVariants as u
 use Rattle.simulation.specs.Runs.{Ghost, frame_of}
 use Rattle.simulation.proofs.Numbers.{computes-from-one, computes-from-two}
 use Rattle.interpreter.specs.Running.{IsDear, Machine, Pays, RunsAt, cells_in, height_in}
-use Rattle.interpreter.specs.Turns.{Answers, Costs, lowered, replaced, second_of}
+use Rattle.interpreter.specs.Operations.{Answers, Costs, lowered, replaced, second_of}
 use Rattle.interpreter.specs.Worlds.{World}
 use Rattle.interpreter.proofs.Forms.{HasOwn, IsAt, answers, puts, takes, topmost, under}
 

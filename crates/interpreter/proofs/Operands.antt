@@ -14,7 +14,7 @@ use Rattle.sidetable.specs.Counts.{Signatures, counts_of, memory_counts}
 use Rattle.sidetable.specs.declared.counts.Counts.{Counts}
 use Rattle.sidetable.specs.Flat.{Plain, without_alignment, without_annotations}
 use Rattle.simulation.specs.Operations.{IsCharged, IsChosen}
-use Rattle.simulation.specs.Runs.{Ghost, IsBefore, Leads, Runs, place_of}
+use Rattle.simulation.specs.Runs.{Ghost, IsBefore, FrameReaches, Runs, place_of}
 use Rattle.simulation.proofs.Heights.{Counted, counted, fits-length}
 use Rattle.simulation.proofs.Plain.{at-written, found, here}
 use Rattle.simulation.proofs.Typed.{Inner, with_labels}
@@ -52,7 +52,7 @@ module _ (g : Ghost) (cells : List ℕ) (at top : ℕ) where
   -- The machine after it has the same number of locals.
   pub charged-low : Runs g cells at top → (next_at next_top : ℕ) → IsCharged g cells at top next_at next_top → length g.locals ≤ next_top
   charged-low r next_at next_top (goes, dear) =
-      let l : Leads g 1 g.store cells next_at next_top 0 = goes 1 0 (omega arith) (omega arith) in
+      let l : FrameReaches g 1 g.store cells next_at next_top 0 = goes 1 0 (omega arith) (omega arith) in
       let before = values-length g.store g.locals g.types r.typed.own in
       let after = values-length l.new.store l.new.locals l.new.types l.runs.typed.own in
       let types : length l.new.types ≡ length g.types = ap (λ (ts : List ValType). length ts) l.same.types in

@@ -23,7 +23,7 @@ use Rattle.interpreter.specs.Callers.{Caller, CallersStand, layers_around}
 use Rattle.interpreter.specs.Calling.{AreReplaced, declared_locals, position_replaced}
 use Rattle.interpreter.specs.Looping.{loop_at, machine_at}
 use Rattle.interpreter.specs.Running.{Machine}
-use Rattle.interpreter.specs.Whole.{AsksNext, IsSeenFrom, Loop, Reaches, RunsWhole, SwitchesTo, Whole, whole}
+use Rattle.interpreter.specs.Whole.{AsksNext, IsSeenFrom, Loop, LoopReaches, RunsWhole, SwitchesTo, Whole, whole}
 use Rattle.interpreter.specs.Worlds.{World, store_in}
 use Rattle.interpreter.specs.declared.machine.Frame.{Frame}
 use Rattle.interpreter.specs.declared.machine.Position.{Position}
@@ -122,7 +122,7 @@ module _ (bound : ℕ) (w : World) (cells : List ℕ) (callers : List Frame) (at
         (subst (λ (q : ℕ). take (at.base + f.flat.now.locals) cells'
         ≡ take at.base cells ++ (take q (drop (top + 1 - q) (set cells top operand)) ++ replicate (declared_locals f) 0)) found.flat.params replaced_so.0))
 
-    replaced-in : 1 ≤ at.fuel → (other : World) → IsSeenFrom f.instance w other → Reaches bound l u (record (loop_at w cells' callers (position_replaced at f)) { world = other })
+    replaced-in : 1 ≤ at.fuel → (other : World) → IsSeenFrom f.instance w other → LoopReaches bound l u (record (loop_at w cells' callers (position_replaced at f)) { world = other })
     replaced-in some other seen =
         let own = placed-own w m h r.runs op top operand f.ty.now f.instance (code_of f.func.now) b cells' filled in
         let size = replaced_so.1 in

@@ -29,7 +29,7 @@ use Rattle.interpreter.specs.Calling.{position_resumed}
 use Rattle.interpreter.specs.Layout.{AreMoved, put_back}
 use Rattle.interpreter.specs.Looping.{loop_at, machine_at}
 use Rattle.interpreter.specs.Running.{Machine, RunsAt}
-use Rattle.interpreter.specs.Whole.{IsOver, IsSeenFrom, Loop, Reaches, RunsWhole, SwitchesTo, Whole, whole}
+use Rattle.interpreter.specs.Whole.{IsOver, IsSeenFrom, Loop, LoopReaches, RunsWhole, SwitchesTo, Whole, whole}
 use Rattle.interpreter.specs.Worlds.{IsInstance, World, store_in}
 use Rattle.interpreter.proofs.Worlds.{flat-seen}
 use Rattle.interpreter.specs.declared.machine.Frame.{Frame}
@@ -178,7 +178,7 @@ module _ (bound : ℕ) (w : World) (cells : List ℕ) (at : Position) (fuel cost
       top' = at.base - 1 + n
 
       resumed-in : (other : World) → IsSeenFrom frame.instance w other
-          → Reaches bound (before (frame ∷ others)) (whole_of (c ∷ cs))
+          → LoopReaches bound (before (frame ∷ others)) (whole_of (c ∷ cs))
           (record (loop_at w cells' others (position_resumed at frame n operand')) { world = other })
       resumed-in other seen =
           let (valid, all_typed) = steps-typed bound all_results (subst StoreIsValid r.runs.store r.runs.runs.typed.valid, r.typed) steps in

@@ -25,8 +25,8 @@ use Rattle.interpreter.specs.Callers.{Caller, layers_around}
 use Rattle.interpreter.specs.Calling.{Leaves}
 use Rattle.interpreter.specs.Looping.{loop_at, machine_at}
 use Rattle.interpreter.specs.Running.{Machine, cells_in, height_in}
-use Rattle.interpreter.specs.Turns.{Turns}
-use Rattle.interpreter.specs.Whole.{Loop, Reaches, RunsSomeWhole, RunsWhole, StopsAt, Whole, whole}
+use Rattle.interpreter.specs.Operations.{Executes}
+use Rattle.interpreter.specs.Whole.{Loop, LoopReaches, RunsSomeWhole, RunsWhole, StopsAt, Whole, whole}
 use Rattle.interpreter.specs.Worlds.{World}
 use Rattle.interpreter.specs.declared.machine.Frame.{Frame}
 use Rattle.interpreter.specs.declared.machine.Position.{Position}
@@ -67,7 +67,7 @@ module _ (bound : ℕ) (w : World) (cells : List ℕ) (callers : List Frame) (at
     abbrev s : Settled u.ghost (cells_in u.ghost m) m.place (height_in m)
     s = settled u.ghost (cells_in u.ghost m) m.place (height_in m) r.runs.runs
 
-    abbrev settles : Reaches bound l u l
+    abbrev settles : LoopReaches bound l u l
     settles = lifted-there bound l u r at.fuel
         (record {
           new = on u.ghost u.ghost.locals s.values s.labels s.rest;
@@ -79,10 +79,10 @@ module _ (bound : ℕ) (w : World) (cells : List ℕ) (callers : List Frame) (at
 
   -- ---- the end of the code
 
-  module _ (n : ℕ) (turns : Turns w m (op.Leave n)) where
+  module _ (n : ℕ) (executes : Executes w m (op.Leave n)) where
     ends : CanLeave bound w cells at at.fuel callers 0 n
     ends u r =
-        let (more, there) = turns u.ghost r.runs in
+        let (more, there) = executes u.ghost r.runs in
         let (no_labels, no_rest, count, n_is) = at-end u.ghost.code m.place n more there (s u r).values (s u r).labels (s u r).rest (s u r).runs.stands (s u r).settled in
         (settles u r, left-over (settles u r).new.ghost no_labels no_rest count, n_is)
 
@@ -91,13 +91,13 @@ module _ (bound : ℕ) (w : World) (cells : List ℕ) (callers : List Frame) (at
 
   -- ---- a return
 
-  module _ (n : ℕ) (turns : Turns w m (op.Transfer transfer.Return n)) where
+  module _ (n : ℕ) (executes : Executes w m (op.Transfer transfer.Return n)) where
     abbrev e : Entry
     e = entry_of_number w.flat.tables n
 
     returns : CanLeave bound w cells at at.fuel callers 1 e.kept
     returns u r =
-        let (more, there) = turns u.ghost r.runs in
+        let (more, there) = executes u.ghost r.runs in
         let z : Settled u.ghost (cells_in u.ghost m) m.place (height_in m) = s u r in
         let (rest, rest_is, e_is) = begins u.ghost.code m.place (Return e) more there z.values z.labels z.rest z.runs.stands z.settled in
         let h : Ghost = on u.ghost u.ghost.locals z.values z.labels z.rest in

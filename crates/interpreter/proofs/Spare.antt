@@ -13,12 +13,12 @@ use Rattle.simulation.specs.Runs.{Ghost}
 use Rattle.store.specs.State.{StateContents}
 use Rattle.interpreter.specs.Ahead.{RanAhead, StopsOrLacks, fuel_ahead, position_ahead, position_with, rest_ahead, stop_with_more, with_rest}
 use Rattle.interpreter.specs.Calling.{Leaves}
-use Rattle.interpreter.specs.Crossing.{GoesOn}
+use Rattle.interpreter.specs.Crossing.{ContinuesInInstance}
 use Rattle.interpreter.specs.Layout.{AreMoved}
 use Rattle.interpreter.specs.Looping.{loop_at, machine_at}
 use Rattle.interpreter.specs.Running.{Pays, Traps}
 use Rattle.interpreter.specs.Stepping.{StepsTo, StopsBefore}
-use Rattle.interpreter.specs.Turns.{LeadsOn, Turns}
+use Rattle.interpreter.specs.Operations.{ExecutesIn, Executes}
 use Rattle.interpreter.specs.Whole.{Loop, Ran, RunsSomeWhole, RunsWhole, StopsAt, Whole, left_to_do, with_more_fuel}
 use Rattle.interpreter.specs.Worlds.{World}
 use Rattle.interpreter.specs.declared.ahead.Ahead.{Ahead}
@@ -29,11 +29,11 @@ use Rattle.interpreter.specs.declared.machine.Stop.TheVariants as stop
 use Rattle.interpreter.proofs.Lifting.{ran-first, ran-then}
 use Rattle.interpreter.proofs.Looping.{branches-op, fails-op, leaves-op, pays-op, ran-at, runs-there, some-there, steps-on, stops-before, stops-then}
 use Rattle.interpreter.proofs.MoreFuel.{ran-more, runs-more, stops-more}
-use Rattle.interpreter.proofs.Turning.{operations-turn}
+use Rattle.interpreter.proofs.Executing.{operations-execute}
 
 -- At the end of a run, an operation is next.
 pub before-end : (bound : ℕ) (start l : Loop) → Ran bound start l → RunsSomeWhole bound start → l.machine.place < length l.world.flat.operations.items
-before-end bound start l ran some = let (g, r) = runs-there bound start l ran some in (operations-turn l.world l.machine g r).0
+before-end bound start l ran some = let (g, r) = runs-there bound start l ran some in (operations-execute l.world l.machine g r).0
 
 -- After a run the loop stops, or lacks fuel, as it does from the end of the run.
 then-stops : (bound : ℕ) (l l' l'' : Loop) (s : Option Stop) → Ran bound l l' → StopsOrLacks bound l' s l'' → StopsOrLacks bound l s l''
@@ -77,10 +77,10 @@ module _ (bound : ℕ) (start : Loop) (w : World) (cells : List ℕ) (callers : 
 
   -- ---- operations in the loop's own code
 
-  module _ (o o' : PackedOp) (turns : Turns w (machine_at cells (position_with w.number 1 at)) o) (is_op : o ≡ o') where
+  module _ (o o' : PackedOp) (executes : Executes w (machine_at cells (position_with w.number 1 at)) o) (is_op : o ≡ o') where
     -- The operation was paid for.
     pub pays-ahead : (state' : StateContents) (bytes' cells' : List ℕ) (top' operand' : ℕ)
-        → ((g : Ghost) → LeadsOn w (machine_at cells (position_with w.number 1 at)) g o'
+        → ((g : Ghost) → ExecutesIn w (machine_at cells (position_with w.number 1 at)) g o'
         → Pays g (machine_at cells (position_with w.number 1 at)) (record w { state = state'; bytes = bytes' })
         (record (machine_at cells (position_with w.number 1 at)) { cells = cells'; place = at.place + 1; top = top'; operand = operand' }))
         → RanAhead bound start (record w { state = state'; bytes = bytes' }) cells' callers end (record at { place = at.place + 1; top = top'; operand = operand' })
@@ -91,38 +91,38 @@ module _ (bound : ℕ) (start : Loop) (w : World) (cells : List ℕ) (callers : 
           ran = subst (λ (n : ℕ). Ran bound start
               (loop_at (record w { state = state'; bytes = bytes' }) cells' callers
               (position_with w.number n (record at { place = at.place + 1; top = top'; operand = operand' })))) paid
-              (pays-op bound start all ran.ran o o' turns is_op state' bytes' cells' (at.place + 1) top' operand' (omega (arith, inside)) step);
+              (pays-op bound start all ran.ran o o' executes is_op state' bytes' cells' (at.place + 1) top' operand' (omega (arith, inside)) step);
           small = omega (arith, small, inside);
         }
 
     -- The operation leads to another place.
     pub jumps-ahead : (cells' : List ℕ) (place' top' operand' : ℕ)
-        → ((g : Ghost) → LeadsOn w (machine_at cells (position_with w.number 1 at)) g o'
+        → ((g : Ghost) → ExecutesIn w (machine_at cells (position_with w.number 1 at)) g o'
         → Pays g (machine_at cells (position_with w.number 1 at)) w (record (machine_at cells (position_with w.number 1 at)) { cells = cells'; place = place'; top = top'; operand = operand' }))
         → Ran bound start (loop_at w cells' callers (with_rest end at (record (position_with w.number 0 at) { place = place'; top = top'; operand = operand' })))
     jumps-ahead cells' place' top' operand' step =
         let paid : fuel_ahead end at - 1 ≡ 0 + rest_ahead end at = omega (arith, inside) in
         subst (λ (n : ℕ). Ran bound start (loop_at w cells' callers (record (position_with w.number n at) { place = place'; top = top'; operand = operand' }))) paid
-        (pays-op bound start all ran.ran o o' turns is_op w.state w.bytes cells' place' top' operand' (omega (arith, inside)) step)
+        (pays-op bound start all ran.ran o o' executes is_op w.state w.bytes cells' place' top' operand' (omega (arith, inside)) step)
 
     -- The operation traps, and was paid for.
-    pub fails-ahead : (trap : Trap) → ((g : Ghost) → LeadsOn w (machine_at cells (position_with w.number 1 at)) g o' → Traps g (machine_at cells (position_with w.number 1 at)) trap)
+    pub fails-ahead : (trap : Trap) → ((g : Ghost) → ExecutesIn w (machine_at cells (position_with w.number 1 at)) g o' → Traps g (machine_at cells (position_with w.number 1 at)) trap)
         → (p : Position) → p ≡ with_rest end at (position_with w.number 0 at) → StopsAt bound start (stop.Traps trap) (loop_at w cells callers p)
     fails-ahead trap fails p is =
         let paid : fuel_ahead end at - 1 ≡ 0 + rest_ahead end at = omega (arith, inside) in
         subst (λ (q : Position). StopsAt bound start (stop.Traps trap) (loop_at w cells callers q)) (sym is)
         (subst (λ (n : ℕ). StopsAt bound start (stop.Traps trap) (loop_at w cells callers (position_with w.number n at))) paid
-        (fails-op bound start all ran.ran o o' turns is_op trap (omega (arith, inside)) fails))
+        (fails-op bound start all ran.ran o o' executes is_op trap (omega (arith, inside)) fails))
 
   -- A branch that is taken goes to its entry.
-  pub branches-ahead : (o : PackedOp) (n : ℕ) → Turns w (machine_at cells (position_with w.number 1 at)) o → o ≡ op.BrIf n → (e : Entry) → e
+  pub branches-ahead : (o : PackedOp) (n : ℕ) → Executes w (machine_at cells (position_with w.number 1 at)) o → o ≡ op.BrIf n → (e : Entry) → e
       ≡ entry_of_number w.flat.tables n → (cells' : List ℕ) (operand' : ℕ)
       → AreMoved cells (at.top - 1) (at.base + e.height) e.kept cells' operand' → (at.operand ≡ 0 → ⊥)
       → Ran bound start (loop_at w cells' callers (with_rest end at (record (position_with w.number 0 at) { place = e.target; top = at.base + e.height + e.kept; operand = operand' })))
-  branches-ahead o n turns is e e_is cells' operand' moved taken =
+  branches-ahead o n executes is e e_is cells' operand' moved taken =
       let paid : fuel_ahead end at - 1 ≡ 0 + rest_ahead end at = omega (arith, inside) in
       subst (λ (n : ℕ). Ran bound start (loop_at w cells' callers (record (position_with w.number n at) { place = e.target; top = at.base + e.height + e.kept; operand = operand' }))) paid
-      (branches-op bound start all ran.ran o n turns is e e_is cells' operand' moved (omega (arith, inside)) taken)
+      (branches-op bound start all ran.ran o n executes is e e_is cells' operand' moved (omega (arith, inside)) taken)
 
   -- ---- where it lands
 
@@ -164,12 +164,12 @@ module _ (bound : ℕ) (start : Loop) (w : World) (cells : List ℕ) (callers : 
     with-rest w' cells' callers' to goes = with-all None _ (ran-more bound (rest_ahead end at) one (loop_at w' cells' callers' to) goes)
 
     -- The end of the code leaves the frame.
-    pub leaves-ahead : (o : PackedOp) (n : ℕ) → Turns w (machine_at cells (position_with w.number 1 at)) o → o ≡ op.Leave n → Leaves bound w cells callers (position_with w.number 1 at) 1 n
-    leaves-ahead o n turns is = leaves-op bound one w cells callers (position_with w.number 1 at) (ran-first bound one) lent o n turns is
+    pub leaves-ahead : (o : PackedOp) (n : ℕ) → Executes w (machine_at cells (position_with w.number 1 at)) o → o ≡ op.Leave n → Leaves bound w cells callers (position_with w.number 1 at) 1 n
+    leaves-ahead o n executes is = leaves-op bound one w cells callers (position_with w.number 1 at) (ran-first bound one) lent o n executes is
 
     module _ (cells' : List ℕ) (callers' : List Frame) (to : Position) where
       -- The loop continues, within the list, and at most the one unit is left.
-      module _ (goes : GoesOn bound one cells' callers' to) where
+      module _ (goes : ContinuesInInstance bound one cells' callers' to) where
         pub goes-within : end ≡ length w.flat.operations.items → to.place ≤ end
         goes-within is = let there = before-end bound one (loop_at w cells' callers' to) goes.0 lent in omega (arith, there, is)
 

@@ -13,7 +13,7 @@ use Rattle.store.specs.State.{StateContents, global_of}
 use Rattle.interpreter.specs.Looping.{machine_at}
 use Rattle.interpreter.specs.Running.{IsDear, Machine, RunsAt}
 use Rattle.interpreter.specs.Stepping.{IsPaid, Steps, StepsTo, StopsBefore, position_lowered, position_pushed}
-use Rattle.interpreter.specs.Turns.{Costs, OtherFits, OtherLeads, global_address, lowered, pushed, replaced, with_global_cell}
+use Rattle.interpreter.specs.Operations.{Costs, IsReadyForOther, ExecutesOther, global_address, lowered, pushed, replaced, with_global_cell}
 use Rattle.interpreter.specs.Worlds.{World}
 use Rattle.interpreter.specs.declared.machine.Position.{Position}
 use Rattle.interpreter.specs.declared.machine.Stop.{Stop}
@@ -26,32 +26,33 @@ global-read s names n a g inside is there = (sym (get_or_read names n a inside i
 
 module _ (w : World) (m : Machine) (kind kind' : OtherInstruction) (n : ℕ) (is : kind ≡ kind') where
   -- What it needs, by the instruction.
-  pub fits-as : OtherFits w m kind n → OtherFits w m kind' n
-  fits-as fits = subst (λ (k : OtherInstruction). OtherFits w m k n) is fits
+  pub fits-as : IsReadyForOther w m kind n → IsReadyForOther w m kind' n
+  fits-as fits = subst (λ (k : OtherInstruction). IsReadyForOther w m k n) is fits
 
-module _ (w : World) (cells : List ℕ) (at : Position) (kind : OtherInstruction) (n : ℕ) (turns : (g : Ghost) → RunsAt w (machine_at cells at) g → OtherLeads w (machine_at cells at) g kind n) where
+module _ (w : World) (cells : List ℕ) (at : Position) (kind : OtherInstruction) (n : ℕ)
+    (executes : (g : Ghost) → RunsAt w (machine_at cells at) g → ExecutesOther w (machine_at cells at) g kind n) where
   abbrev m : Machine
   m = machine_at cells at
 
   module _ (kind' : OtherInstruction) (is : kind ≡ kind') where
-    leads-as : (g : Ghost) → RunsAt w m g → OtherLeads w m g kind' n
-    leads-as = subst (λ (k : OtherInstruction). (g : Ghost) → RunsAt w m g → OtherLeads w m g k n) is turns
+    leads-as : (g : Ghost) → RunsAt w m g → ExecutesOther w m g kind' n
+    leads-as = subst (λ (k : OtherInstruction). (g : Ghost) → RunsAt w m g → ExecutesOther w m g k n) is executes
 
     -- Without fuel nothing is done.
-    stops : (s : Stop) → s ≡ stop.NoFuel → at.fuel ≡ 0 → ((g : Ghost) → OtherLeads w m g kind' n → IsDear g m) → StopsBefore w cells at w cells s
+    stops : (s : Stop) → s ≡ stop.NoFuel → at.fuel ≡ 0 → ((g : Ghost) → ExecutesOther w m g kind' n → IsDear g m) → StopsBefore w cells at w cells s
     stops s is none dear = rw is (record { same = refl; kept = refl; there = λ g r. dear g (leads-as g r) at.fuel (omega (arith, none)) })
 
     -- One more operand.
     pub pushes : (result : Option Position) (why : Stop) (cell cell' : ℕ) (cells' : List ℕ) → IsPaid at result why (position_pushed at cell)
         → OnSome result (cells' ≡ set cells at.top at.operand) → IfNone result (cells' ≡ cells) → cell ≡ cell'
-        → ((g : Ghost) → OtherLeads w m g kind' n → Costs w m g (pushed m cell')) → Steps w cells at result why w cells'
+        → ((g : Ghost) → ExecutesOther w m g kind' n → Costs w m g (pushed m cell')) → Steps w cells at result why w cells'
     pushes (Some to) why cell cell' cells' (paid, there) put kept same costs =
         rw (there, put, same) (record { there = refl; falls = omega (arith, paid); leads = λ g r. (costs g (leads-as g r)).0 at.fuel (at.fuel - 1) paid refl })
     pushes None why cell cell' cells' (there, none) put kept same costs = rw kept (stops why there none (λ g leads. (costs g leads).1))
 
     -- A topmost operand in the place of that many.
     pub lowers : (result : Option Position) (why : Stop) (by cell : ℕ) → IsPaid at result why (position_lowered at by cell)
-        → ((g : Ghost) → OtherLeads w m g kind' n → Costs w m g (lowered m by cell)) → Steps w cells at result why w cells
+        → ((g : Ghost) → ExecutesOther w m g kind' n → Costs w m g (lowered m by cell)) → Steps w cells at result why w cells
     lowers (Some to) why by cell (paid, there) costs =
         rw there (record { there = refl; falls = omega (arith, paid); leads = λ g r. (costs g (leads-as g r)).0 at.fuel (at.fuel - 1) paid refl })
     lowers None why by cell (there, none) costs = stops why there none (λ g leads. (costs g leads).1)
@@ -68,7 +69,7 @@ module _ (w : World) (cells : List ℕ) (at : Position) (kind : OtherInstruction
   pushes-null (inr is) result why cells' paid put kept = pushes other.RefNullExtern is result why 0 0 cells' paid put kept refl (λ g leads. leads)
 
   -- A test of the operand for the null.
-  pub tests-null : (g : Ghost) (t : Bool) → eqb at.operand 0 ≡ t → OtherLeads w m g other.RefIsNull n → Costs w m g (replaced m (bool_byte t))
+  pub tests-null : (g : Ghost) (t : Bool) → eqb at.operand 0 ≡ t → ExecutesOther w m g other.RefIsNull n → Costs w m g (replaced m (bool_byte t))
   tests-null g true e (null, other, dear) = (null (eqb-true at.operand 0 e), dear)
   tests-null g false e (null, other, dear) = (other (eqb-false at.operand 0 e), dear)
 

@@ -14,11 +14,11 @@ use Rattle.simulation.specs.Calls.{around}
 use Rattle.simulation.specs.Settling.{in_frame, inside_labels}
 use Rattle.store.specs.Contents.{Contents}
 use Rattle.interpreter.specs.Callers.{Caller, CallersStand, layers_around}
-use Rattle.interpreter.specs.Calling.{CrossesTo, IsCrossed}
-use Rattle.interpreter.specs.Crossing.{Crosses}
+use Rattle.interpreter.specs.Calling.{ContinuesAnywhere, IsCrossed}
+use Rattle.interpreter.specs.Crossing.{ContinuesOrStops}
 use Rattle.interpreter.specs.Looping.{loop_at}
 use Rattle.interpreter.specs.Running.{RunsAt}
-use Rattle.interpreter.specs.Whole.{IsSeenFrom, Loop, Reaches, RunsSomeWhole, RunsWhole, Whole, left_to_do, whole}
+use Rattle.interpreter.specs.Whole.{IsSeenFrom, Loop, LoopReaches, RunsSomeWhole, RunsWhole, Whole, left_to_do, whole}
 use Rattle.interpreter.specs.Worlds.{World, store_in}
 use Rattle.interpreter.specs.declared.machine.Crossing.{Crossing}
 use Rattle.interpreter.specs.declared.machine.Crossing.TheVariants.{Goes, Stops, Switches}
@@ -62,7 +62,7 @@ callers-count code size (frame ∷ frames) (c ∷ cs) arity below (stands, furth
 pub switched : (bound : ℕ) (l l' : Loop) (u new : Whole) (other : World) → IsSeenFrom l'.number l.world other → RunsWhole bound l u → new.results ≡ u.results
     → Steps NoHosts bound no_frame (record { store = store_in l.world; hosts = []; fuel = l.fuel }) (whole u) (record { store = store_in l.world; hosts = []; fuel = l'.fuel }) (whole new)
     → RunsAt other l'.machine new.ghost → CallersStand l.world.code (length l'.machine.cells) l'.callers new.callers new.ghost.code.outermost.kept (take l'.machine.base l'.machine.cells)
-    → new.ghost.code.outermost.kept ≡ length new.ghost.results → suc (length l'.callers) ≤ bound → Reaches bound l u (record l' { world = other })
+    → new.ghost.code.outermost.kept ≡ length new.ghost.results → suc (length l'.callers) ≤ bound → LoopReaches bound l u (record l' { world = other })
 switched bound l l' u new other seen r results steps runs callers arity deep =
     let (valid, typed) = steps-typed bound u.results (subst StoreIsValid r.runs.store r.runs.runs.typed.valid, r.typed) steps in
     record {
@@ -85,7 +85,8 @@ switched bound l l' u new other seen r results steps runs callers arity deep =
 
 -- The loop continues with code of the same instance, or code of another one is next.
 pub crosses : (bound : ℕ) (l : Loop) (cells' : List ℕ) (callers' : List Frame) (result : Crossing) (to : Position) → RunsSomeWhole bound l → IsCrossed l.world.number result to.instance
-    → CrossesTo bound l (loop_at l.world cells' callers' to) → left_to_do (loop_at l.world cells' callers' to) < left_to_do l → (why : Stop) → Crosses bound l result why cells' callers' to
+    → ContinuesAnywhere bound l (loop_at l.world cells' callers' to) → left_to_do (loop_at l.world cells' callers' to) < left_to_do l
+    → (why : Stop) → ContinuesOrStops bound l result why cells' callers' to
 crosses bound l cells' callers' Goes to (u, r) number goes less why = (
   record { from = λ v s. (goes v s).1 l.world (record { store = refl; code = refl; seen_from = sym number; instance = s.runs.instance }); falls = omega (arith, less) },
   number ∙ sym r.number,

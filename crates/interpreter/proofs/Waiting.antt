@@ -24,7 +24,7 @@ use Rattle.interpreter.specs.Callers.{Caller, CallerStands, CallersStand}
 use Rattle.interpreter.specs.Calling.{declared_locals, frame_waiting, position_opened}
 use Rattle.interpreter.specs.Looping.{loop_at, machine_at}
 use Rattle.interpreter.specs.Running.{Machine, RunsAt}
-use Rattle.interpreter.specs.Whole.{IsSeenFrom, Loop, Reaches, RunsWhole, SwitchesTo, Whole, layers_of, whole}
+use Rattle.interpreter.specs.Whole.{IsSeenFrom, Loop, LoopReaches, RunsWhole, SwitchesTo, Whole, layers_of, whole}
 use Rattle.interpreter.specs.Worlds.{World, store_in}
 use Rattle.interpreter.specs.declared.machine.Frame.{Frame}
 use Rattle.interpreter.specs.declared.machine.Position.{Position}
@@ -156,7 +156,7 @@ module _ (bound : ℕ) (w : World) (cells : List ℕ) (callers : List Frame) (at
         (entered-runs w m h r.runs op top operand address f found b cells' base' own (omega (arith, room, size)) other seen)
 
     opened-in : 1 ≤ at.fuel → suc (length callers) < bound → (other : World) → IsSeenFrom f.instance w other
-        → Reaches bound l u (record (loop_at w cells' (frame_waiting at ∷ callers) (position_opened at top f)) { world = other })
+        → LoopReaches bound l u (record (loop_at w cells' (frame_waiting at ∷ callers) (position_opened at top f)) { world = other })
     opened-in some shallow other seen =
         switched bound l (loop_at w cells' (frame_waiting at ∷ callers) (position_opened at top f)) u called other seen r refl
         (one_more none (opens opens-next some refl refl (omega (arith, depth-is, shallow))))

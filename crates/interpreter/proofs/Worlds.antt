@@ -17,7 +17,7 @@ use Rattle.simulation.specs.Runs.{Ghost}
 use Rattle.simulation.specs.Tables.{HasTable}
 use Rattle.simulation.specs.Variables.{HasGlobal}
 use Rattle.interpreter.specs.Running.{Machine, RunsAt}
-use Rattle.interpreter.specs.Turns.{entry_through, function_address, global_address, table_address, type_of, with_global_cell}
+use Rattle.interpreter.specs.Operations.{entry_through, function_address, global_address, table_address, type_of, with_global_cell}
 use Rattle.interpreter.specs.Worlds.{IsInstance, World, memory_in, store_in, with_memory_back}
 
 -- ---- objects by address

@@ -17,8 +17,8 @@ use Rattle.interpreter.specs.declared.machine.Position.{Position}
 use Rattle.interpreter.specs.declared.machine.Stop.TheVariants as stop
 
 -- The loop continues in code of any instance.
-abbrev pub CrossesTo : (bound : ℕ) → Loop → Loop → Type 0
-CrossesTo bound l l' = (w : Whole) → RunsWhole bound l w → SwitchesTo bound l w l'
+abbrev pub ContinuesAnywhere : (bound : ℕ) → Loop → Loop → Type 0
+ContinuesAnywhere bound l l' = (w : Whole) → RunsWhole bound l w → SwitchesTo bound l w l'
 
 -- The loop continues in a frame of an instance: the one whose code runs, or another one.
 abbrev pub IsCrossed : (number : ℕ) → Crossing → (instance : ℕ) → Type 0
@@ -78,7 +78,7 @@ pub record CallsModule (bound : ℕ) (w : World) (cells : List ℕ) (callers : L
       → take (from.top + 1 + declared_locals f) cells' ≡
       take (from.top + 1) (set cells from.top from.operand) ++ replicate (declared_locals f) 0
       → length cells' ≡ length cells
-      → CrossesTo bound (loop_at w cells callers at)
+      → ContinuesAnywhere bound (loop_at w cells callers at)
       (loop_at w cells' (frame_waiting at ∷ callers) (position_opened at from.top f))
 
 -- The first place of a function whose frame replaces the one at a position.
@@ -115,7 +115,7 @@ pub record ReplacesModule (bound : ℕ) (w : World) (cells : List ℕ) (callers 
   pub replaces : 1 ≤ at.fuel
       → at.base + f.flat.now.greatest < length cells
       → (cells' : List ℕ) → AreReplaced cells at.base from f cells'
-      → CrossesTo bound (loop_at w cells callers at)
+      → ContinuesAnywhere bound (loop_at w cells callers at)
       (loop_at w cells' callers (position_replaced at f))
 
 abbrev pub CallsInModule : CallKind → (bound : ℕ) → World → (cells : List ℕ)
@@ -162,5 +162,5 @@ pub record Leaves (bound : ℕ) (w : World) (cells : List ℕ) (callers : List F
   pub back : (frame : Frame) (others : List Frame) → callers ≡ frame ∷ others
       → (cells' : List ℕ) (operand' : ℕ)
       → AreMoved (set cells at.top at.operand) at.top (at.base - 1) results cells' operand'
-      → CrossesTo bound (loop_at w cells callers (record at { fuel = fuel }))
+      → ContinuesAnywhere bound (loop_at w cells callers (record at { fuel = fuel }))
       (loop_at w cells' others (position_resumed at frame results operand'))

@@ -9,18 +9,19 @@ use Rattle.interpreter.specs.declared.machine.Position.{Position}
 use Rattle.interpreter.specs.declared.machine.Stop.{Stop}
 
 -- The loop continues in a frame of code of the same instance.
-abbrev pub GoesOn : (bound : ℕ) → Loop → (cells' : List ℕ) → (callers' : List Frame)
+abbrev pub ContinuesInInstance : (bound : ℕ) → Loop → (cells' : List ℕ) → (callers' : List Frame)
     → (to : Position) → Type 0
-GoesOn bound l cells' callers' to =
+ContinuesInInstance bound l cells' callers' to =
     Ran bound l (loop_at l.world cells' callers' to) × (to.instance ≡ l.number)
     × (left_to_do (loop_at l.world cells' callers' to) < left_to_do l)
 
 -- Where the loop continues, or why it stops, with the cells, the callers and the position afterwards.
-abbrev pub Crosses : (bound : ℕ) → Loop → Crossing → (why : Stop) → (cells' : List ℕ)
+abbrev pub ContinuesOrStops : (bound : ℕ) → Loop → Crossing → (why : Stop) → (cells' : List ℕ)
     → (callers' : List Frame) → (to : Position) → Type 0
-Crosses bound l Goes why cells' callers' to = GoesOn bound l cells' callers' to
-Crosses bound l Switches why cells' callers' to =
+ContinuesOrStops bound l Goes why cells' callers' to =
+    ContinuesInInstance bound l cells' callers' to
+ContinuesOrStops bound l Switches why cells' callers' to =
     ((w : Whole) → RunsWhole bound l w → SwitchesTo bound l w (loop_at l.world cells' callers' to))
     × (left_to_do (loop_at l.world cells' callers' to) < left_to_do l)
-Crosses bound l Stops why cells' callers' to =
+ContinuesOrStops bound l Stops why cells' callers' to =
     StopsAt bound l why (loop_at l.world cells' callers' to)

@@ -1,7 +1,7 @@
 pub mod Layout
 pub mod Worlds
 pub mod Running
-pub mod Turns
+pub mod Operations
 pub mod Callers
 pub mod Whole
 pub mod Looping

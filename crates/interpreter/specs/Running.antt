@@ -2,7 +2,7 @@
 use Rattle.std.specs.Prelude.{◌≡◌, ℕ, ◌+◌, ◌-◌, ◌<◌, ◌≤◌, List, length, take}
 use Rattle.core_types.specs.declared.outcome.Trap.{Trap}
 use Rattle.sidetable.specs.FlatModules.{operations_of}
-use Rattle.simulation.specs.Runs.{Fails, Ghost, Lacks, Leads, Runs}
+use Rattle.simulation.specs.Runs.{Fails, Ghost, Lacks, FrameReaches, Runs}
 use Rattle.interpreter.specs.Layout.{put_back}
 use Rattle.interpreter.specs.Worlds.{IsInstance, World, store_in}
 
@@ -32,20 +32,20 @@ pub record RunsAt (w : World) (m : Machine) (g : Ghost) : Type 0 where
   pub instance : IsInstance w
 
 -- The configuration leads, with this fuel, to what the machine runs then. The cells below the frame are unchanged.
-pub record GoesTo (g : Ghost) (m : Machine) (fuel : ℕ) (w' : World) (m' : Machine) (left : ℕ)
-    : Type 0 where
-  pub leads : Leads g fuel (store_in w') (cells_in g m') m'.place (height_in m') left
+pub record MachineReaches (g : Ghost) (m : Machine) (fuel : ℕ) (w' : World) (m' : Machine)
+    (left : ℕ) : Type 0 where
+  pub leads : FrameReaches g fuel (store_in w') (cells_in g m') m'.place (height_in m') left
   pub low : m'.base + g.code.locals ≤ m'.top
   pub size : length m'.cells ≡ length m.cells
   pub below : take m.base m'.cells ≡ take m.base m.cells
 
 -- The same for one unit of fuel.
 abbrev pub Pays : Ghost → Machine → World → Machine → Type 0
-Pays g m w' m' = (fuel left : ℕ) → 1 ≤ fuel → left ≡ fuel - 1 → GoesTo g m fuel w' m' left
+Pays g m w' m' = (fuel left : ℕ) → 1 ≤ fuel → left ≡ fuel - 1 → MachineReaches g m fuel w' m' left
 
 -- The same at no cost.
-abbrev pub GoesFree : Ghost → Machine → World → Machine → Type 0
-GoesFree g m w' m' = (fuel : ℕ) → GoesTo g m fuel w' m' fuel
+abbrev pub ReachesForFree : Ghost → Machine → World → Machine → Type 0
+ReachesForFree g m w' m' = (fuel : ℕ) → MachineReaches g m fuel w' m' fuel
 
 -- The configuration lacks fuel if there is none.
 abbrev pub IsDear : Ghost → Machine → Type 0

@@ -4,8 +4,8 @@ use Rattle.sidetable.specs.Flat.{Plain}
 use Rattle.sidetable.specs.Packing.{other_op}
 use Rattle.simulation.specs.Runs.{Ghost, Lacks}
 use Rattle.interpreter.specs.Looping.{machine_at}
-use Rattle.interpreter.specs.Running.{GoesTo, Machine, RunsAt, cells_in, height_in}
-use Rattle.interpreter.specs.Turns.{IsLeft, StandsThere}
+use Rattle.interpreter.specs.Running.{MachineReaches, Machine, RunsAt, cells_in, height_in}
+use Rattle.interpreter.specs.Operations.{IsLeft, StandsThere}
 use Rattle.interpreter.specs.Worlds.{World}
 use Rattle.interpreter.specs.declared.machine.Position.{Position}
 use Rattle.interpreter.specs.declared.machine.Stop.{Stop}
@@ -35,10 +35,11 @@ StopsThere other w m fuel g = ⊥
 -- The loop continues with the next operation, in the same frame.
 pub record StepsTo (w : World) (cells : List ℕ) (at : Position) (w' : World) (cells' : List ℕ)
     (to : Position) : Type 0 where
-  pub there : to ≡ record at { place = at.place + 1; top = to.top; operand = to.operand; fuel = to.fuel }
+  pub there : to ≡
+      record at { place = at.place + 1; top = to.top; operand = to.operand; fuel = to.fuel }
   pub falls : to.fuel < at.fuel
   pub leads : (g : Ghost) → RunsAt w (machine_at cells at) g
-      → GoesTo g (machine_at cells at) at.fuel w' (machine_at cells' to) to.fuel
+      → MachineReaches g (machine_at cells at) at.fuel w' (machine_at cells' to) to.fuel
 
 pub record StopsBefore (w : World) (cells : List ℕ) (at : Position) (w' : World) (cells' : List ℕ)
     (s : Stop) : Type 0 where

@@ -24,7 +24,7 @@ use Rattle.simulation.specs.Runs.{Ghost, config_of, frame_of}
 use Rattle.interpreter.specs.Callees.{IsCalled}
 use Rattle.interpreter.specs.Callers.{Caller, CallersStand, layers_around}
 use Rattle.interpreter.specs.Running.{Machine, RunsAt, cells_in, height_in}
-use Rattle.interpreter.specs.Turns.{IsLeft, StandsThere}
+use Rattle.interpreter.specs.Operations.{IsLeft, StandsThere}
 use Rattle.interpreter.specs.Worlds.{Sees, World, store_in}
 use Rattle.interpreter.specs.declared.machine.CallKind.{CallKind}
 use Rattle.interpreter.specs.declared.machine.CallKind.TheVariants.{Nested, Tail}
@@ -77,21 +77,21 @@ abbrev pub state : Store → (fuel : ℕ) → State ⊥
 state store fuel = record { store = store; hosts = []; fuel = fuel }
 
 -- Steps of the whole lead from where the loop is to a configuration.
-abbrev pub Leads : (bound : ℕ) → Loop → Whole → Loop → Configuration → Type 0
-Leads bound l w l' c =
+abbrev pub LoopStepsTo : (bound : ℕ) → Loop → Whole → Loop → Configuration → Type 0
+LoopStepsTo bound l w l' c =
     Steps NoHosts bound no_frame (state (store_in l.world) l.fuel) (whole w)
     (state (store_in l'.world) l'.fuel) c
 
 -- The steps lead to what the loop runs then.
-pub record Reaches (bound : ℕ) (l : Loop) (w : Whole) (l' : Loop) : Type 0 where
+pub record LoopReaches (bound : ℕ) (l : Loop) (w : Whole) (l' : Loop) : Type 0 where
   pub new : Whole
   pub results : new.results ≡ w.results
-  pub steps : Leads bound l w l' (whole new)
+  pub steps : LoopStepsTo bound l w l' (whole new)
   pub runs : RunsWhole bound l' new
 
 -- The same from whatever runs at the start, and the work that is left has not grown.
 pub record Ran (bound : ℕ) (l l' : Loop) : Type 0 where
-  pub from : (w : Whole) → RunsWhole bound l w → Reaches bound l w l'
+  pub from : (w : Whole) → RunsWhole bound l w → LoopReaches bound l w l'
   pub falls : left_to_do l' ≤ left_to_do l
 
 -- ---- where the loop stops
@@ -118,7 +118,8 @@ pub record CallsHostNext (fuel : ℕ) (m : Machine) (w : Whole) (kind : CallKind
   pub is_host : function.implementation ≡ InHost number
   pub height : ℕ
   pub lies : behind ≡ m.base + height + 1
-  pub calls : IsCalled kind op address function w.ghost (cells_in w.ghost m) m.place (height_in m) height
+  pub calls : IsCalled kind op address function w.ghost (cells_in w.ghost m) m.place
+      (height_in m) height
   pub paid : 1 ≤ fuel
 
 -- The frame of a callee begins at its arguments, which are the topmost of the frame's cells up to a height; that of a tail call
@@ -166,7 +167,7 @@ paid_for other = 0
 
 -- The loop reached where it stops.
 pub record StopsWhole (bound : ℕ) (l : Loop) (w : Whole) (s : Stop) (l' : Loop) : Type 0 where
-  pub there : Reaches bound l w (with_more_fuel l' (paid_for s))
+  pub there : LoopReaches bound l w (with_more_fuel l' (paid_for s))
   pub by : StopsBy bound s l'.world (store_in l'.world) (l'.fuel + paid_for s) l'.machine
       there.new
 
@@ -183,7 +184,7 @@ pub record HasResults (store : Store) (m : Machine) (results : List ValType) (va
 -- The run is over, and its results are on top.
 pub record IsOver (bound : ℕ) (l : Loop) (w : Whole) (l' : Loop) : Type 0 where
   pub values : List Val
-  pub steps : Leads bound l w l' (Running values Empty)
+  pub steps : LoopStepsTo bound l w l' (Running values Empty)
   pub results : HasResults (store_in l'.world) l'.machine w.results values
 
 -- The same store, seen from another instance.
@@ -195,7 +196,7 @@ abbrev pub SwitchesTo : (bound : ℕ) → Loop → Whole → Loop → Type 0
 SwitchesTo bound l w l' =
     ((i : Instance) × IsLoaded l'.world.code l'.number i)
     × ((other : World) → IsSeenFrom l'.number l'.world other
-    → Reaches bound l w (record l' { world = other }))
+    → LoopReaches bound l w (record l' { world = other }))
 
 abbrev pub StopsFrom : (bound : ℕ) → Loop → Whole → Stop → Loop → Type 0
 StopsFrom bound l w stop.Over l' = IsOver bound l w l'

@@ -1,6 +1,6 @@
 ghost use Rattle.std.specs.Prelude.{◌<◌, length};
 ghost use Rattle.interpreter.specs.Callees.{FindsEntry, RefersToFunction};
-ghost use Rattle.interpreter.specs.Turns.{entry_through, table_address, type_of};
+ghost use Rattle.interpreter.specs.Operations.{entry_through, table_address, type_of};
 
 use core_types::{FuncType, Trap, Val};
 use sidetable::IndexPair;

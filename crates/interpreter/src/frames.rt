@@ -1,9 +1,9 @@
 ghost use Rattle.std.specs.Prelude.{◌≡◌, ◌+◌, ◌<◌, ◌≤◌, ◌^◌, ℕ, length, suc};
 ghost use Rattle.interpreter.specs.Calling.{Calls, CallsInModule, CallsModule, IsCrossed, Leaves, ReplacesModule, with_instance};
 ghost use Rattle.interpreter.specs.Callees.{operation_by_name, transfer_through};
-ghost use Rattle.interpreter.specs.Crossing.{Crosses};
+ghost use Rattle.interpreter.specs.Crossing.{ContinuesOrStops};
 ghost use Rattle.interpreter.specs.Looping.{loop_at, machine_at, world_at};
-ghost use Rattle.interpreter.specs.Turns.{Fits, Turns};
+ghost use Rattle.interpreter.specs.Operations.{IsReadyFor, Executes};
 ghost use Rattle.interpreter.specs.Whole.{RunsSomeWhole};
 ghost use Rattle.sidetable.specs.declared.operations.PackedOp.TheVariants as op;
 
@@ -50,7 +50,7 @@ fn open<'a>(
     requires paid { 1 ≤ at.old.fuel }
     requires shallow { suc (length callers.old) < around.bound }
     requires next { at.old.place + 1 < 2 ^ 32 }
-    ensures { Crosses around.entry.bound
+    ensures { ContinuesOrStops around.entry.bound
         (loop_at (world_at around.entry state.now memory.now) cells.old callers.old at.old)
         result why.new cells.new callers.new at.new }
 {
@@ -101,7 +101,7 @@ fn replace<'a>(
     requires replaces { ReplacesModule around.bound (world_at around state.now memory.now) cells.old
         callers.now at.old from function.now }
     requires paid { 1 ≤ at.old.fuel }
-    ensures { Crosses around.entry.bound
+    ensures { ContinuesOrStops around.entry.bound
         (loop_at (world_at around.entry state.now memory.now) cells.old callers.now at.old)
         result why.new cells.new callers.now at.new }
 {
@@ -142,7 +142,7 @@ fn enter_function<'a>(
         cells.old callers.old at.old from function.now }
     requires paid { 1 ≤ at.old.fuel }
     requires next { at.old.place + 1 < 2 ^ 32 }
-    ensures { Crosses around.entry.bound
+    ensures { ContinuesOrStops around.entry.bound
         (loop_at (world_at around.entry state.now memory.now) cells.old callers.old at.old)
         result why.new cells.new callers.new at.new }
 {
@@ -187,7 +187,7 @@ fn enter<'a>(
         callers.old at.old from kind found.address found.callee }
     requires paid { 1 ≤ at.old.fuel }
     requires next { at.old.place + 1 < 2 ^ 32 }
-    ensures { Crosses around.entry.bound
+    ensures { ContinuesOrStops around.entry.bound
         (loop_at (world_at around.entry state.now memory.now) cells.old callers.old at.old)
         result why.new cells.new callers.new at.new }
 {
@@ -225,7 +225,7 @@ fn enter_far<'a>(
         callers.old at.old from kind found.address found.callee }
     requires paid { 1 ≤ at.old.fuel }
     requires next { at.old.place + 1 < 2 ^ 32 }
-    ensures { Crosses around.entry.bound
+    ensures { ContinuesOrStops around.entry.bound
         (loop_at (world_at around.entry state.now memory.now) cells.old callers.old at.old)
         result why.new cells.new callers.new at.new }
 {
@@ -250,13 +250,13 @@ fn call_imported<'a>(
 ) -> Crossing
     requires sound { RunsSomeWhole around.bound
         (loop_at (world_at around state.now memory.now) cells.old callers.old at.old) }
-    requires fits { Fits (world_at around state.now memory.now) (machine_at cells.old at.old)
+    requires fits { IsReadyFor (world_at around state.now memory.now) (machine_at cells.old at.old)
         (operation_by_name kind index) }
-    requires turns { Turns (world_at around state.now memory.now) (machine_at cells.old at.old)
-        (operation_by_name kind index) }
+    requires executes { Executes (world_at around state.now memory.now)
+        (machine_at cells.old at.old) (operation_by_name kind index) }
     requires paid { 1 ≤ at.old.fuel }
     requires next { at.old.place + 1 < 2 ^ 32 }
-    ensures { Crosses around.entry.bound
+    ensures { ContinuesOrStops around.entry.bound
         (loop_at (world_at around.entry state.now memory.now) cells.old callers.old at.old)
         result why.new cells.new callers.new at.new }
 {
@@ -294,12 +294,12 @@ pub fn call<'a>(
 ) -> Crossing
     requires sound { RunsSomeWhole around.bound
         (loop_at (world_at around state.now memory.now) cells.old callers.old at.old) }
-    requires fits { Fits (world_at around state.now memory.now) (machine_at cells.old at.old)
+    requires fits { IsReadyFor (world_at around state.now memory.now) (machine_at cells.old at.old)
         (operation_by_name kind index) }
-    requires turns { Turns (world_at around state.now memory.now) (machine_at cells.old at.old)
-        (operation_by_name kind index) }
+    requires executes { Executes (world_at around state.now memory.now)
+        (machine_at cells.old at.old) (operation_by_name kind index) }
     requires next { at.old.place + 1 < 2 ^ 32 }
-    ensures { Crosses around.entry.bound
+    ensures { ContinuesOrStops around.entry.bound
         (loop_at (world_at around.entry state.now memory.now) cells.old callers.old at.old)
         result why.new cells.new callers.new at.new }
 {
@@ -366,12 +366,12 @@ pub fn call_indirect<'a>(
 ) -> Crossing
     requires sound { RunsSomeWhole around.bound
         (loop_at (world_at around state.now memory.now) cells.old callers.old at.old) }
-    requires fits { Fits (world_at around state.now memory.now) (machine_at cells.old at.old)
+    requires fits { IsReadyFor (world_at around state.now memory.now) (machine_at cells.old at.old)
         (op.Transfer (transfer_through kind) number) }
-    requires turns { Turns (world_at around state.now memory.now) (machine_at cells.old at.old)
-        (op.Transfer (transfer_through kind) number) }
+    requires executes { Executes (world_at around state.now memory.now)
+        (machine_at cells.old at.old) (op.Transfer (transfer_through kind) number) }
     requires next { at.old.place + 1 < 2 ^ 32 }
-    ensures { Crosses around.entry.bound
+    ensures { ContinuesOrStops around.entry.bound
         (loop_at (world_at around.entry state.now memory.now) cells.old callers.old at.old)
         result why.new cells.new callers.new at.new }
 {
@@ -422,7 +422,7 @@ pub fn leave<'a>(
     ensures { (fuel : ℕ)
         → Leaves around.entry.bound (world_at around.entry state.now memory.now) cells.old
         callers.old at.old fuel results
-        → Crosses around.entry.bound
+        → ContinuesOrStops around.entry.bound
         (loop_at (world_at around.entry state.now memory.now) cells.old callers.old
         (record at.old { fuel = fuel }))
         result why.new cells.new callers.new at.new }

@@ -14,5 +14,5 @@ mod reading;
 mod transfers;
 
 pub use ahead::run;
-pub use laws::{operands_fit, operations_turn};
+pub use laws::{operands_fit, operations_execute};
 pub use machine::{CallKind, Frame, Position, Stop, Surroundings};

@@ -1,7 +1,7 @@
 ghost use Rattle.std.specs.Prelude.{◌≡◌, ◌+◌, ◌-◌, ◌<◌, ◌≤◌, ◌^◌, ℕ, List, length, set, IfNone, OnSome};
 ghost use Rattle.interpreter.specs.Looping.{machine_at, world_at};
 ghost use Rattle.interpreter.specs.Stepping.{IsPaid, Steps, position_lowered, position_pushed};
-ghost use Rattle.interpreter.specs.Turns.{Fits, Turns};
+ghost use Rattle.interpreter.specs.Operations.{IsReadyFor, Executes};
 ghost use Rattle.interpreter.specs.declared.machine.Stop.TheVariants as stop;
 ghost use Rattle.sidetable.specs.declared.operations.PackedOp.TheVariants as op;
 
@@ -57,12 +57,12 @@ pub fn step_other(
     why: &mut Stop,
 ) -> Option<Position>
     requires next { at.place + 1 < 2 ^ 32 }
-    requires fits { (bytes : List ℕ) × Fits (world_at around state.old bytes)
+    requires fits { (bytes : List ℕ) × IsReadyFor (world_at around state.old bytes)
         (machine_at cells.old at) (op.Other kind n) }
     ensures { (bytes : List ℕ)
-        → Fits (world_at around.entry state.old bytes) (machine_at cells.old at)
+        → IsReadyFor (world_at around.entry state.old bytes) (machine_at cells.old at)
         (op.Other kind n)
-        → Turns (world_at around.entry state.old bytes) (machine_at cells.old at)
+        → Executes (world_at around.entry state.old bytes) (machine_at cells.old at)
         (op.Other kind n)
         → Steps (world_at around.entry state.old bytes) cells.old at result why.new
         (world_at around.entry state.new bytes) cells.new }

@@ -2,7 +2,7 @@ ghost use Rattle.std.specs.Prelude.{◌≡◌, ◌+◌, ◌<◌, ◌^◌, length
 ghost use Rattle.simulation.specs.Runs.{Ghost};
 ghost use Rattle.interpreter.specs.Looping.{machine_at, world_at};
 ghost use Rattle.interpreter.specs.Running.{RunsAt};
-ghost use Rattle.interpreter.specs.Turns.{Fits, Turns};
+ghost use Rattle.interpreter.specs.Operations.{IsReadyFor, Executes};
 ghost use Rattle.sidetable.specs.SideTables.{entry_of_number};
 
 use crate::machine::{Position, Surroundings};
@@ -25,9 +25,9 @@ pub fn fetch<'a>(
         (machine_at cells.now at) g }
     ensures inside { at.place < length operations.now }
     ensures next { at.place + 1 < 2 ^ 32 }
-    ensures fits { Fits (world_at around.entry state.now memory.now)
+    ensures fits { IsReadyFor (world_at around.entry state.now memory.now)
         (machine_at cells.now at) result.now }
-    ensures turns { Turns (world_at around.entry state.now memory.now)
+    ensures executes { Executes (world_at around.entry state.now memory.now)
         (machine_at cells.now at) result.now }
 {
     &operations[at.place]

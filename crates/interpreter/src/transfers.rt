@@ -1,9 +1,9 @@
 ghost use Rattle.std.specs.Prelude.{◌≡◌, ◌+◌, ◌<◌, ◌≤◌, ◌^◌, get_or, length, suc};
 ghost use Rattle.interpreter.specs.Calling.{position_landed};
-ghost use Rattle.interpreter.specs.Crossing.{Crosses};
+ghost use Rattle.interpreter.specs.Crossing.{ContinuesOrStops};
 ghost use Rattle.interpreter.specs.Layout.{AreMoved};
 ghost use Rattle.interpreter.specs.Looping.{loop_at, machine_at, world_at};
-ghost use Rattle.interpreter.specs.Turns.{Fits, Turns};
+ghost use Rattle.interpreter.specs.Operations.{IsReadyFor, Executes};
 ghost use Rattle.interpreter.specs.Whole.{RunsSomeWhole};
 ghost use Rattle.sidetable.specs.Packing.{branch_entries};
 ghost use Rattle.sidetable.specs.SideTables.{branch_range_of, entry_of_number};
@@ -104,12 +104,12 @@ pub fn transfer<'a>(
 ) -> Crossing
     requires sound { RunsSomeWhole around.bound
         (loop_at (world_at around state.now memory.now) cells.old callers.old at.old) }
-    requires fits { Fits (world_at around state.now memory.now) (machine_at cells.old at.old)
+    requires fits { IsReadyFor (world_at around state.now memory.now) (machine_at cells.old at.old)
         (op.Transfer kind n) }
-    requires turns { Turns (world_at around state.now memory.now) (machine_at cells.old at.old)
-        (op.Transfer kind n) }
+    requires executes { Executes (world_at around state.now memory.now)
+        (machine_at cells.old at.old) (op.Transfer kind n) }
     requires next { at.old.place + 1 < 2 ^ 32 }
-    ensures { Crosses around.entry.bound
+    ensures { ContinuesOrStops around.entry.bound
         (loop_at (world_at around.entry state.now memory.now) cells.old callers.old at.old)
         result why.new cells.new callers.new at.new }
 {

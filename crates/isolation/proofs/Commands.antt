@@ -1,14 +1,10 @@
--- Commands keep to their reach, and commands to other instances change no replies.
-use Rattle.std.proofs.Common.{◌≡◌, ℕ, zero, suc, ◌<◌, ◌≤◌, List, [], ◌∷◌, bytes_eq, length, reverse, Option, Some, None, refl, ap, sym, subst, ◌∙◌, arith, slice_get, option_map, inl, inr, ◌^◌}
+-- Commands keep to their reach, and replies to what they ask are alike in embeddings that look alike there.
+use Rattle.std.proofs.Common.{◌≡◌, ℕ, zero, suc, ◌<◌, ◌≤◌, List, [], ◌∷◌, length, reverse, Option, Some, None, refl, ap, sym, subst, ◌∙◌, arith, slice_get, inl, inr}
 use Rattle.std.proofs.lemmas.Option.{slice_get_within}
 use Rattle.std.specs.List.{All}
-use Rattle.std.specs.Prelude.{Result, Ok, Err, find, option_and_then}
-use Rattle.core_types.specs.declared.module.Export.{Export}
-use Rattle.core_types.specs.declared.module.ExportDesc.{ExportDesc}
-use Rattle.core_types.specs.declared.module.ExportDesc.TheVariants as export
+use Rattle.std.specs.Prelude.{Result, Ok, Err}
 use Rattle.core_types.specs.declared.module.Module.{Module}
 use Rattle.core_types.specs.declared.outcome.Extern.{Extern}
-use Rattle.core_types.specs.declared.outcome.Extern.TheVariants as value
 use Rattle.core_types.specs.declared.outcome.Val.{Val}
 use Rattle.core_types.specs.declared.outcome.Val.TheVariants.{I32, I64, FuncRef, ExternRef}
 use Rattle.core_types.specs.declared.types.FuncType.{FuncType}
@@ -18,139 +14,34 @@ use Rattle.meaning.specs.embedding.Creation.{Creates, HostDefinition}
 use Rattle.meaning.specs.embedding.Machine.{Applies, AppliesAll, CallsAt, Embedding, GetsAt, LinksAt, Loads, Refuses, RegistersAt, as_function, as_global}
 use Rattle.meaning.specs.embedding.Machine.{export_at, export_from, export_in, resolve_imports, with_fuel}
 use Rattle.meaning.specs.embedding.Machine as machine
-use Rattle.meaning.specs.embedding.Names.{export_of, extern_of}
+use Rattle.meaning.specs.embedding.Names.{export_of}
 use Rattle.meaning.specs.execution.Configurations.{Invoking, no_frame}
 use Rattle.meaning.specs.execution.Hosts.{IsHostStep}
 use Rattle.meaning.specs.execution.Modules.{Instantiation}
 use Rattle.meaning.specs.execution.Runs.{Answer, Ending, Run, State, WithValues}
-use Rattle.meaning.specs.execution.Store.{FunctionInstance, Implementation, InCode, InHost, ModuleInstance, Store, instance_of}
+use Rattle.meaning.specs.execution.Store.{FunctionInstance, ModuleInstance, Store, instance_of}
 use Rattle.meaning.specs.soundness.Values.{TakesArguments, ValueHasType, ValuesHaveTypes}
-use Rattle.meaning.specs.structure.Bodies.{Body, body_of, writing}
-use Rattle.soundness.proofs.Creation.{fresh-ready, fresh-sound}
-use Rattle.soundness.proofs.Embedding.{commands-go-well}
-use Rattle.soundness.proofs.Objects.{All-none}
-use Rattle.soundness.specs.Embedding.{LoadsBytes}
-use Rattle.soundness.specs.Links.{IsSoundModule}
-use Rattle.soundness.specs.Stores.{StoreIsValid}
-use Rattle.soundness.proofs.Values.{All-at}
+use Rattle.soundness.proofs.Creation.{fresh-ready}
 use Rattle.soundness.specs.Hosts.{GivesNoFuncref}
-use Rattle.isolation.specs.Commands.{AnyInstanceIsIn, ChangesNothing, LeavesHosts, AllKeepToTheirReach, ChangesNoMore, CommandsKeepToTheirReach}
-use Rattle.isolation.specs.Commands.{IsOthersCommand, AsksWithin, KeepsToItsReach, MayReply, OthersChangeNoAnswers, OutOfReachChangesNoAnswers}
+use Rattle.isolation.specs.Commands.{AnyInstanceIsIn, ChangesNothing, AllKeepToTheirReach, ChangesNoMore, CommandsKeepToTheirReach}
+use Rattle.isolation.specs.Commands.{AsksWithin, KeepsToItsReach, MayReply}
 use Rattle.isolation.specs.Commands.{ReachesNoFurther, ReplyIsWithin}
 use Rattle.isolation.specs.Isolation.{LookAlike}
-use Rattle.isolation.specs.Regions.{AreApart, IsThere, AgreeWithin, AllocatesNothing, ExternIsWithin, ExternsAreWithin, Has, HasNot, ImplementationIsWithin}
-use Rattle.isolation.specs.Regions.{InstanceIsWithin, IsClosed, KeepsCode, LeavesOutside, IsSameWithin, Region, StaysOutside, ValueIsWithin, ValuesAreWithin}
+use Rattle.isolation.specs.Regions.{AgreeWithin, AllocatesNothing, ExternsAreWithin, Has, HasNot}
+use Rattle.isolation.specs.Regions.{InstanceIsWithin, IsClosed, KeepsCode, LeavesOutside, Region, StaysOutside, ValueIsWithin, ValuesAreWithin}
 use Rattle.isolation.specs.Regions.{and_from, with_new, marked}
 use Rattle.isolation.proofs.Changes.{Change, IsNoLink, call_run, command-change, fuel_set, link_failed, link_made, modules_loaded, name_registered}
-use Rattle.isolation.proofs.Changes.{nothing_done, numbers-before, numbers-kept, setup-kept}
+use Rattle.isolation.proofs.Changes.{nothing_done}
 use Rattle.isolation.proofs.Effects.{instance-same, instance-within}
 use Rattle.isolation.proofs.Links.{links-keep-to}
 use Rattle.isolation.proofs.Moves.{LeavesOutside-same}
 use Rattle.isolation.proofs.New.{closed-more}
-use Rattle.isolation.specs.Reach.{AreMentioned, IsPlaceIn, AsksFrom, Place, StartsFrom, reach_when_asked, reach_of, start}
-use Rattle.isolation.proofs.Reach.{all-said-within, reach-closed, reach-there, reaches-no-further}
+use Rattle.isolation.specs.Reach.{StartsFrom, reach_of}
+use Rattle.isolation.proofs.Reach.{reach-closed, reaches-no-further}
 use Rattle.isolation.proofs.Runs.{looks-like-itself, run-alike, runs-keep-to}
 use Rattle.isolation.proofs.Within.{reverse-within}
-
--- ---- exports
-
--- The result of a function for an item that exists.
-made-of : {A B : Type 0} (f : A → B) (found : Option A) (y : B) → option_map f found ≡ Some y → (x : A) × (found ≡ Some x) × (f x ≡ y)
-made-of f None y is = absurd cc
-made-of f (Some x) y is = (x, refl, cc)
-
-module _ (region : Region) (i : ModuleInstance) (has : InstanceIsWithin region i) where
-  desc-within : (desc : ExportDesc) (e : Extern) → extern_of i desc ≡ Some e → ExternIsWithin region e
-  desc-within (export.Func x) e is = let (a, there, same) = made-of value.Func (slice_get i.functions x) e is in
-      subst (ExternIsWithin region) same (All-at (Has region.functions) i.functions x a there has.functions)
-  desc-within (export.Table x) e is = let (a, there, same) = made-of value.Table (slice_get i.tables x) e is in
-      subst (ExternIsWithin region) same (All-at (Has region.tables) i.tables x a there has.tables)
-  desc-within (export.Memory x) e is = let (a, there, same) = made-of value.Memory (slice_get i.memories x) e is in
-      subst (ExternIsWithin region) same (All-at (Has region.memories) i.memories x a there has.memories)
-  desc-within (export.Global x) e is = let (a, there, same) = made-of value.Global (slice_get i.globals x) e is in
-      subst (ExternIsWithin region) same (All-at (Has region.globals) i.globals x a there has.globals)
-
-  export-within : (name : List ℕ) (e : Extern) → export_of i name ≡ Some e → ExternIsWithin region e
-  export-within name e is = go (find (λ (x : Export). bytes_eq x.name name) i.exports) is
-    where
-      go : (found : Option Export) → option_and_then (λ (x : Export). extern_of i x.desc) found ≡ Some e → ExternIsWithin region e
-      go None same = absurd cc
-      go (Some x) same = desc-within x.desc e same
-
-  function-exported : (name : List ℕ) (address : ℕ) → as_function (export_in (export_of i name)) ≡ Ok address → Has region.functions address
-  function-exported name address is = go (export_of i name) refl is
-    where
-      go : (o : Option Extern) → export_of i name ≡ o → as_function (export_in o) ≡ Ok address → Has region.functions address
-      go None there same = absurd cc
-      go (Some (value.Func x)) there same = let one : x ≡ address = cc in subst (Has region.functions) one (export-within name (value.Func x) there)
-      go (Some (value.Table x)) there same = absurd cc
-      go (Some (value.Memory x)) there same = absurd cc
-      go (Some (value.Global x)) there same = absurd cc
-
-  global-exported : (name : List ℕ) (address : ℕ) → as_global (export_in (export_of i name)) ≡ Ok address → Has region.globals address
-  global-exported name address is = go (export_of i name) refl is
-    where
-      go : (o : Option Extern) → export_of i name ≡ o → as_global (export_in o) ≡ Ok address → Has region.globals address
-      go None there same = absurd cc
-      go (Some (value.Func x)) there same = absurd cc
-      go (Some (value.Table x)) there same = absurd cc
-      go (Some (value.Memory x)) there same = absurd cc
-      go (Some (value.Global x)) there same = let one : x ≡ address = cc in subst (Has region.globals) one (export-within name (value.Global x) there)
-
--- ---- the region of all addresses
-
-abbrev everything : Region
-everything = record {
-  functions = λ address. Unit {0};
-  instances = λ address. Unit {0};
-  tables = λ address. Unit {0};
-  memories = λ address. Unit {0};
-  globals = λ address. Unit {0};
-  elements = λ address. Unit {0};
-  datas = λ address. Unit {0};
-  hosts = λ number. Unit {0};
-}
-
-any-value : (v : Val) → ValueIsWithin everything v
-any-value (I32 n) = tt
-any-value (I64 n) = tt
-any-value (FuncRef None) = tt
-any-value (FuncRef (Some address)) = tt
-any-value (ExternRef x) = tt
-
-any-values : (vs : List Val) → ValuesAreWithin everything vs
-any-values [] = tt
-any-values (v ∷ vs) = (any-value v, any-values vs)
-
-any-implementation : (i : Implementation) → ImplementationIsWithin everything i
-any-implementation (InCode instance code) = tt
-any-implementation (InHost number) = tt
-
-any-extern : (e : Extern) → ExternIsWithin everything e
-any-extern (value.Func x) = tt
-any-extern (value.Table x) = tt
-any-extern (value.Memory x) = tt
-any-extern (value.Global x) = tt
-
-any-externs : (given : List Extern) → ExternsAreWithin everything given
-any-externs [] = tt
-any-externs (e ∷ given) = (any-extern e, any-externs given)
-
-any-store : (store : Store) → IsClosed everything store
-any-store store = record {
-  functions = λ address f has is. any-implementation f.implementation;
-  instances = λ address i has is. record {
-    functions = λ k d inside. tt;
-    tables = λ k d inside. tt;
-    memories = λ k d inside. tt;
-    globals = λ k d inside. tt;
-    elements = λ k d inside. tt;
-    datas = λ k d inside. tt;
-  };
-  tables = λ address t has is. any-values t.entries;
-  globals = λ address g has is. any-value g.value;
-  elements = λ address e has is. any-values e.references;
-}
+use Rattle.isolation.proofs.Everything.{any-externs, any-store, any-values, everything}
+use Rattle.isolation.proofs.Exports.{function-exported, global-exported}
 
 pub not-from : (addresses : ℕ → Type 0) (first k : ℕ) → HasNot addresses k → k < first → HasNot (and_from addresses first) k
 not-from addresses first k not less any = elim any [
@@ -340,18 +231,18 @@ module _ {H : Type 0} (host_type : H → FuncType) (Answers : H → List Val →
 
   -- ---- embeddings that look alike from an instance
 
-  record SeemsAlike (region : Region) (number : ℕ) (a b : Embedding H) : Type 0 where
-    instance : ℕ
-    first : slice_get a.instances number ≡ Some instance
-    second : slice_get b.instances number ≡ Some instance
-    within : Has region.instances instance
-    depth : b.setup.depth ≡ a.setup.depth
-    states : LookAlike region a.state b.state
+  pub record SeemsAlike (region : Region) (number : ℕ) (a b : Embedding H) : Type 0 where
+    pub instance : ℕ
+    pub first : slice_get a.instances number ≡ Some instance
+    pub second : slice_get b.instances number ≡ Some instance
+    pub within : Has region.instances instance
+    pub depth : b.setup.depth ≡ a.setup.depth
+    pub states : LookAlike region a.state b.state
 
-  record StaysAlike (region : Region) (number : ℕ) (a b : Embedding H) : Type 0 where
-    seems : SeemsAlike region number a b
-    closed : IsClosed region a.state.store
-    free : NoFuncrefs a
+  pub record StaysAlike (region : Region) (number : ℕ) (a b : Embedding H) : Type 0 where
+    pub seems : SeemsAlike region number a b
+    pub closed : IsClosed region a.state.store
+    pub free : NoFuncrefs a
 
   module _ (region : Region) (a b : Store) (agree : AgreeWithin region a b) where
     function-there : (n : ℕ) → Has region.functions n → n < length a.functions → n < length b.functions
@@ -399,7 +290,7 @@ module _ {H : Type 0} (host_type : H → FuncType) (Answers : H → List Val →
       elements = λ k x has is. closed.elements k x has (sym (agree.elements k has) ∙ is);
     }
 
-  alike-back : (region : Region) (number : ℕ) (a b : Embedding H) → NoFuncrefs b → StaysAlike region number a b → StaysAlike region number b a
+  pub alike-back : (region : Region) (number : ℕ) (a b : Embedding H) → NoFuncrefs b → StaysAlike region number a b → StaysAlike region number b a
   alike-back region number a b free_b alike = record {
     seems = record {
       instance = alike.seems.instance;
@@ -519,7 +410,7 @@ module _ {H : Type 0} (host_type : H → FuncType) (Answers : H → List Val →
         subst (λ (n : ℕ). Answered (Applies HostStep b (GetGlobal n name) reply)) (sym same) (its-gets name (subst (λ (n : ℕ). Applies HostStep a (GetGlobal n name) reply a') same applies))
     said-alike (SetFuel fuel) said applies = sets-alike fuel applies
 
-  conversation : (region : Region) (number : ℕ) {a last : Embedding H} {commands : List Command} {replies : List Reply}
+  pub conversation : (region : Region) (number : ℕ) {a last : Embedding H} {commands : List Command} {replies : List Reply}
       → AppliesAll HostStep a commands replies last → (b : Embedding H) → StaysAlike region number a b
       → All (AsksWithin region number) commands → MayReply HostStep b commands replies
   conversation region number machine.none b alike said = (b, machine.none)
@@ -527,148 +418,3 @@ module _ {H : Type 0} (host_type : H → FuncType) (Answers : H → List Val →
       let (b', does, after) = said-alike region number a b between reply alike command (said 0 command (omega arith)) first in
       let (last', others) = conversation region number rest b' after (λ k d inside. said (suc k) d (omega (arith, inside))) in
       (last', machine.then_on does others)
-
-  -- ---- commands to other instances
-
-  module _ (region theirs : Region) (old new : Store) (there : IsThere region old) (apart : AreApart region theirs) (code : KeepsCode old new) where
-    kept-of-region : LeavesOutside theirs old new → AgreeWithin region old new
-    kept-of-region outside = record {
-      functions = λ k has. code.functions k (there.functions k has);
-      instances = λ k has. code.instances k (there.instances k has);
-      tables = λ k has. outside.tables k (apart.tables k has);
-      memories = λ k has. outside.memories k (apart.memories k has);
-      globals = λ k has. outside.globals k (apart.globals k has);
-      elements = λ k has. outside.elements k (apart.elements k has);
-      datas = λ k has. outside.datas k (apart.datas k has);
-      pages = outside.pages;
-      entries = outside.entries;
-    }
-
-    kept-of-link : LeavesOutside (with_new theirs old) old new → AgreeWithin region old new
-    kept-of-link outside = record {
-      functions = λ k has. code.functions k (there.functions k has);
-      instances = λ k has. code.instances k (there.instances k has);
-      tables = λ k has. outside.tables k (not-from theirs.tables (length old.tables) k (apart.tables k has) (there.tables k has));
-      memories = λ k has. outside.memories k (not-from theirs.memories (length old.memories) k (apart.memories k has) (there.memories k has));
-      globals = λ k has. outside.globals k (not-from theirs.globals (length old.globals) k (apart.globals k has) (there.globals k has));
-      elements = λ k has. outside.elements k (not-from theirs.elements (length old.elements) k (apart.elements k has) (there.elements k has));
-      datas = λ k has. outside.datas k (not-from theirs.datas (length old.datas) k (apart.datas k has) (there.datas k has));
-      pages = outside.pages;
-      entries = outside.entries;
-    }
-
-  module _ (region theirs : Region) (old new : Embedding H) (number : ℕ) (reply : Reply) where
-    kept-same : new.state.store ≡ old.state.store → AgreeWithin region old.state.store new.state.store
-    kept-same same = subst (AgreeWithin region old.state.store) (sym same) (looks-like-itself region old.state).stores
-
-    pub kept-by : (command : Command) → IsThere region old.state.store → AreApart region theirs → ChangesNoMore theirs old command reply new → AgreeWithin region old.state.store new.state.store
-    kept-by (Load bytes) there apart (same, hosts) = kept-same same
-    kept-by (Link other) there apart (outside, code, closed, hosts) = kept-of-link region theirs old.state.store new.state.store there apart code outside
-    kept-by (Register other name) there apart (same, hosts) = kept-same same
-    kept-by (Call other name arguments) there apart (outside, code, closed, within, hosts) = kept-of-region region theirs old.state.store new.state.store there apart code outside
-    kept-by (GetGlobal other name) there apart (same, hosts) = kept-same same
-    kept-by (SetFuel fuel) there apart (same, hosts) = kept-same same
-
-    hosts-kept-by : (command : Command) → LeavesHosts region theirs old new → ChangesNoMore theirs old command reply new → IsSameWithin region region.hosts old.state.hosts new.state.hosts
-    hosts-kept-by (Load bytes) apart (same, hosts) = λ n has. ap (λ (hs : List H). slice_get hs n) hosts
-    hosts-kept-by (Link other) apart (outside, code, closed, hosts) = λ n has. elim (apart n has) [ inl not ↦ hosts n not | inr same ↦ same ]
-    hosts-kept-by (Register other name) apart (same, hosts) = λ n has. ap (λ (hs : List H). slice_get hs n) hosts
-    hosts-kept-by (Call other name arguments) apart (outside, code, closed, within, hosts) = λ n has. elim (apart n has) [ inl not ↦ hosts n not | inr same ↦ same ]
-    hosts-kept-by (GetGlobal other name) apart (same, hosts) = λ n has. ap (λ (hs : List H). slice_get hs n) hosts
-    hosts-kept-by (SetFuel fuel) apart (same, hosts) = λ n has. ap (λ (hs : List H). slice_get hs n) hosts
-
-    seem-alike : (command : Command) (fuel : ℕ) → NoFuncrefs old → IsOthersCommand host_type Answers region theirs old number command reply new
-        → StaysAlike region number (with_fuel old fuel) (with_fuel new fuel)
-    seem-alike command fuel free others =
-        let changes = command-reaches theirs old new reply free others.their_closed command others.reach others.applies in
-        let change = command-change HostStep old new reply command others.applies in
-        let (instance, is, has) = others.instance in
-        record {
-          seems = record {
-            instance = instance;
-            first = is;
-            second = numbers-kept HostStep change number instance is;
-            within = has;
-            depth = ap (λ (s : machine.Setup). s.depth) (setup-kept HostStep change);
-            states = record { stores = kept-by command others.there others.apart changes; hosts = hosts-kept-by command others.hosts changes; fuel = refl };
-          };
-          closed = others.closed;
-          free = free;
-        }
-
-  fuelled : (region : Region) (number fuel : ℕ) (a b : Embedding H) (commands : List Command) (replies : List Reply)
-      → StaysAlike region number (with_fuel a fuel) (with_fuel b fuel) → All (AsksWithin region number) commands
-      → MayReply HostStep a (SetFuel fuel ∷ commands) replies → MayReply HostStep b (SetFuel fuel ∷ commands) replies
-  fuelled region number fuel a b commands replies alike said (last, run) = go run
-    where
-      go : {replies : List Reply} → AppliesAll HostStep a (SetFuel fuel ∷ commands) replies last → MayReply HostStep b (SetFuel fuel ∷ commands) replies
-      go (machine.then_on {between = between} {replies = others} first rest) =
-          let (last', answers) = conversation region number (subst (λ (e : Embedding H). AppliesAll HostStep e commands others last) first.1 rest) (with_fuel b fuel) alike said in
-          (last', machine.then_on (first.0, refl) answers)
-
-  pub others-change-nothing : OthersChangeNoAnswers host_type Answers
-  others-change-nothing setup definitions fresh old new before commands replied replies mine theirs number fuel command reply created run others said =
-      let free = list-free (fresh-free setup definitions fresh created) run in
-      let alike = seem-alike (marked mine) (marked theirs) old new number reply command fuel free others in (
-        fuelled (marked mine) number fuel old new commands replies alike said,
-        fuelled (marked mine) number fuel new old commands replies
-            (alike-back (marked mine) number (with_fuel old fuel) (with_fuel new fuel) (command-free old new reply free command others.applies) alike) said,
-      )
-
-  -- ---- the addresses of numbered instances
-
-  abbrev pub NumbersAreThere : Embedding H → Type 0
-  NumbersAreThere at = (number instance : ℕ) → slice_get at.instances number ≡ Some instance → instance < length at.state.store.instances
-
-  pub command-there : (old new : Embedding H) (reply : Reply) → NoFuncrefs old → NumbersAreThere old → (command : Command) → Applies HostStep old command reply new → NumbersAreThere new
-  command-there old new reply free there command applies number instance is =
-      let change = command-change HostStep old new reply command applies in
-      let leaves = command-leaves old new reply free change in
-      elim (numbers-before HostStep change number instance is) [
-        | inl before ↦ let inside = there number instance before in let more = leaves.no_fewer in omega (arith, inside, more)
-        | inr made ↦ let is_last = made.1 in let more = leaves.one_more number made.0 in omega (arith, is_last, more)
-      ]
-
-  pub list-there : {old last : Embedding H} {commands : List Command} {replies : List Reply} → NoFuncrefs old → NumbersAreThere old
-      → AppliesAll HostStep old commands replies last → NumbersAreThere last
-  list-there free there machine.none = there
-  list-there {old} free there (machine.then_on {between = between} {command = command} {reply = reply} first rest) =
-      list-there (command-free old between reply free command first) (command-there old between reply free there command first) rest
-
-  pub fresh-there : (setup : machine.Setup) (definitions : List (HostDefinition H)) (fresh : Embedding H) → Creates host_type setup definitions (Ok fresh) → NumbersAreThere fresh
-  fresh-there setup definitions fresh (faultless, is) = subst NumbersAreThere (sym is) (λ number instance found. absurd cc)
-
-  module _ (read : (b : Body) → body_of (writing b) ≡ b) where
-    pub valid-then : (setup : machine.Setup) (definitions : List (HostDefinition H)) (fresh old : Embedding H) (before : List Command)
-        (replied : List Reply) → length definitions < 2 ^ 32 → Creates host_type setup definitions (Ok fresh)
-        → All LoadsBytes before → AppliesAll HostStep fresh before replied old → StoreIsValid old.state.store
-    valid-then setup definitions fresh old before replied few created bytes run =
-        (commands-go-well read host_type Answers fresh old before replied run (fresh-sound host_type setup definitions fresh few created)
-        (subst (All IsSoundModule) (sym (ap (λ (e : Embedding H). e.modules) created.1)) (All-none IsSoundModule)) bytes).1.valid
-
-    pub out-of-reach-changes-nothing : OutOfReachChangesNoAnswers host_type Answers
-    out-of-reach-changes-nothing setup definitions fresh old new before commands replied replies number fuel command reply few created bytes run out to =
-        let free = list-free (fresh-free setup definitions fresh created) run in
-        let numbers = list-there (fresh-free setup definitions fresh created) (fresh-there setup definitions fresh created) run in
-        let said = all-said-within old number commands to in
-        let others : IsOthersCommand host_type Answers (reach_when_asked old number commands) (reach_of old command) old number command reply new = record {
-          closed = reach-closed old.state.store (AsksFrom old number commands);
-          there = reach-there old.state.store (valid-then setup definitions fresh old before replied few created bytes run) (AsksFrom old number commands) (from numbers out.arguments);
-          instance = (out.instance, out.is, start (inl (out.instance, refl, out.is)));
-          their_closed = reach-closed old.state.store (StartsFrom old command);
-          apart = out.apart;
-          reach = reaches-no-further old command;
-          applies = out.applies;
-          hosts = out.hosts;
-        } in
-        let alike = seem-alike (reach_when_asked old number commands) (reach_of old command) old new number reply command fuel free others in (
-          fuelled (reach_when_asked old number commands) number fuel old new commands replies alike said,
-          fuelled (reach_when_asked old number commands) number fuel new old commands replies
-              (alike-back (reach_when_asked old number commands) number (with_fuel old fuel) (with_fuel new fuel)
-              (command-free old new reply free command out.applies) alike) said,
-        )
-      where
-        from : NumbersAreThere old → ((place : Place) → AreMentioned commands place → IsPlaceIn old.state.store place) → (place : Place)
-            → AsksFrom old number commands place → IsPlaceIn old.state.store place
-        from numbers mentioned place (inl (instance, is, found)) = subst (IsPlaceIn old.state.store) (sym is) (numbers number instance found)
-        from numbers mentioned place (inr says) = mentioned place says

@@ -19,7 +19,8 @@ use Rattle.isolation.specs.Regions.{marked}
 use Rattle.isolation.proofs.Apart.{links-are-apart, registered-ones, strangers-are-apart, strangers-change-nothing}
 use Rattle.isolation.proofs.Bounds.{lists-deeper, lists-more}
 use Rattle.isolation.proofs.Changes.{command-change, setup-kept}
-use Rattle.isolation.proofs.Commands.{commands-keep, others-change-nothing, out-of-reach-changes-nothing}
+use Rattle.isolation.proofs.Commands.{commands-keep}
+use Rattle.isolation.proofs.Others.{others-change-nothing, out-of-reach-changes-nothing}
 use Rattle.isolation.proofs.Determinism.{lists-agree, steps-agree}
 use Rattle.isolation.proofs.Early.{lists-end-early}
 use Rattle.isolation.proofs.Fuel.{calls-deeper, calls-more, runs-end-early}

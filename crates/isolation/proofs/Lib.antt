@@ -10,7 +10,11 @@ pub mod New
 pub mod Constants
 pub mod Links
 pub mod Changes
+pub mod Exports
+pub mod Everything
 pub mod Commands
+pub mod Others
+pub mod Reached
 pub mod Still
 pub mod Apart
 pub mod Engine

@@ -33,7 +33,8 @@ pub fn a_table_entry_leads_out()
 
 /// Worked row of the definitions: two instances with one memory are not apart.
 pub fn a_memory_of_two_instances_is_shared()
-    ensures { AreApart (reach with_shared_memory FromFirst) (reach with_shared_memory FromSecond) → ⊥ }
+    ensures { AreApart (reach with_shared_memory FromFirst)
+        (reach with_shared_memory FromSecond) → ⊥ }
 {}
 
 /// Worked row of the definitions: two instances that import one host function can both reach its object, and are apart.

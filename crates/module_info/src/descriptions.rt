@@ -3,10 +3,11 @@ ghost use Rattle.meaning.specs.validation.Modules.{IsValid};
 ghost use Rattle.module_info.specs.Lines.{Tells, says_valid};
 ghost use Rattle.module_info.specs.Verdicts.{IsFound, IsFoundOf, decode_verdict, validate_verdict};
 
-use crate::functions::function_at;
 use binary::{DecodeError, bytes_spell_one_module, decode};
 use core_types::Module;
-use module_text::{IndexSpaces, rule, unsupported, write_module};
+use explanation::{explain_function, explain_limit, explain_section, function_of_byte};
+use index_spaces::IndexSpaces;
+use module_text::{unsupported, write_module};
 use std::alloc::Global;
 use std::fmt::Display;
 use std::io::{self, Write};
@@ -39,7 +40,7 @@ fn write_unsupported<W: Write>(out: &mut W, bytes: &[u8], offset: usize) -> io::
     ensures told { IfOk result (Tells (W.contents out.old) (W.contents out.new)) }
 {
     let feature = unsupported(bytes.get(offset..).unwrap_or(&[]));
-    match function_at(bytes, offset) {
+    match function_of_byte(bytes, offset) {
         Some(index) => write_refusal(
             out,
             format_args_nl!("unsupported feature at byte {offset}, in function {index}: {feature}"),
@@ -51,8 +52,20 @@ fn write_unsupported<W: Write>(out: &mut W, bytes: &[u8], offset: usize) -> io::
     }
 }
 
+// Writes which limit a module exceeds.
+fn write_limit<W: Write>(alloc: Global, out: &mut W, bytes: &[u8]) -> io::Result<Verdict>
+    ensures verdict { IfOk result (λ verdict. verdict ≡ Verdict.Refused) }
+    ensures told { IfOk result (Tells (W.contents out.old) (W.contents out.new)) }
+{
+    match explain_limit(alloc, bytes) {
+        Ok(Some(text)) => write_refusal(out, format_args_nl!("module exceeds a limit: {text}")),
+        _ => write_refusal(out, format_args_nl!("module exceeds a limit")),
+    }
+}
+
 // Writes why bytes encode no module.
 fn write_decode_error<W: Write>(
+    alloc: Global,
     out: &mut W,
     bytes: &[u8],
     error: &DecodeError,
@@ -65,27 +78,53 @@ fn write_decode_error<W: Write>(
         DecodeError::Malformed(offset) => {
             write_refusal(out, format_args_nl!("malformed module at byte {offset}"))
         }
-        DecodeError::Limit => write_refusal(out, format_args_nl!("module exceeds a limit")),
+        DecodeError::Limit => write_limit(alloc, out, bytes),
         DecodeError::OutOfMemory => Ok(Verdict::OutOfMemory),
     }
 }
 
+// Returns why a module is not valid at a place, or none if memory runs out.
+fn explain(alloc: Global, bytes: &[u8], place: Place) -> Option<String> {
+    let decoded = decode(alloc, bytes).ok()?;
+    match place {
+        Place::Func(body) => explain_function(alloc, &decoded, bytes, body).ok()?,
+        Place::Section(id) => explain_section(alloc, &decoded, id).ok()?,
+    }
+}
+
+// Writes why a module is not valid at a place.
+fn write_invalid<W: Write>(
+    alloc: Global,
+    out: &mut W,
+    bytes: &[u8],
+    place: Place,
+) -> io::Result<Verdict>
+    ensures verdict { IfOk result (λ verdict. verdict ≡ Verdict.Refused) }
+    ensures told { IfOk result (Tells (W.contents out.old) (W.contents out.new)) }
+{
+    if let Some(reason) = explain(alloc, bytes, place) {
+        return write_refusal(out, format_args_nl!("invalid module: {reason}"));
+    }
+    match place {
+        Place::Func(body) => {
+            write_refusal(out, format_args_nl!("invalid module: function {body}"))
+        }
+        Place::Section(id) => write_refusal(out, format_args_nl!("invalid module: section {id}")),
+    }
+}
+
 // Writes why a module is not valid.
-fn write_validate_error<W: Write>(out: &mut W, error: &ValidateError) -> io::Result<Verdict>
+fn write_validate_error<W: Write>(
+    alloc: Global,
+    out: &mut W,
+    bytes: &[u8],
+    error: &ValidateError,
+) -> io::Result<Verdict>
     ensures verdict { IfOk result (λ verdict. verdict ≡ validate_verdict error.now) }
     ensures told { IfOk result (Tells (W.contents out.old) (W.contents out.new)) }
 {
     match error {
-        ValidateError::Invalid(Place::Section(id)) => {
-            let broken = rule(*id);
-            write_refusal(
-                out,
-                format_args_nl!("invalid module: section {id}: {broken}"),
-            )
-        }
-        ValidateError::Invalid(Place::Func(index)) => {
-            write_refusal(out, format_args_nl!("invalid module: function {index}"))
-        }
+        ValidateError::Invalid(place) => write_invalid(alloc, out, bytes, *place),
         ValidateError::OutOfMemory => Ok(Verdict::OutOfMemory),
     }
 }
@@ -132,15 +171,15 @@ fn describe_valid<W: Write>(
 fn describe_module<W: Write>(
     alloc: Global,
     out: &mut W,
-    len: usize,
+    bytes: &[u8],
     decoded: Module,
 ) -> io::Result<Verdict>
     ensures found { IfOk result (λ verdict. IsFoundOf decoded verdict) }
     ensures told { IfOk result (Tells (W.contents out.old) (W.contents out.new)) }
 {
     match validate(alloc, decoded) {
-        Ok(valid) => describe_valid(alloc, out, len, valid.module()),
-        Err(error) => write_validate_error(out, &error),
+        Ok(valid) => describe_valid(alloc, out, bytes.len(), valid.module()),
+        Err(error) => write_validate_error(alloc, out, bytes, &error),
     }
 }
 
@@ -161,7 +200,7 @@ pub fn describe<W: Write>(alloc: Global, out: &mut W, bytes: &[u8]) -> io::Resul
 {
     bytes_spell_one_module();
     match decode(alloc, bytes) {
-        Ok(decoded) => describe_module(alloc, out, bytes.len(), decoded),
-        Err(error) => write_decode_error(out, bytes, &error),
+        Ok(decoded) => describe_module(alloc, out, bytes, decoded),
+        Err(error) => write_decode_error(alloc, out, bytes, &error),
     }
 }

@@ -2,6 +2,5 @@
 #![tactic(auto)]
 
 mod descriptions;
-mod functions;
 
 pub use descriptions::{Verdict, describe};

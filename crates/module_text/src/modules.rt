@@ -1,8 +1,8 @@
-use crate::index_spaces::IndexSpaces;
 use crate::types::{write_func, write_global, write_memory, write_table};
 use core_types::{
     DataSegment, Export, ExportDesc, Func, FuncType, Import, ImportDesc, Limits, Module, TableType,
 };
+use index_spaces::IndexSpaces;
 use std::io::{self, Write};
 
 // Writes the type of a function, by its index in the list of types.
@@ -38,7 +38,7 @@ fn write_exported<W: Write>(
     desc: ExportDesc,
 ) -> io::Result<()> {
     match desc {
-        ExportDesc::Func(index) => match spaces.funcs.get(index as usize) {
+        ExportDesc::Func(index) => match spaces.functions.get(index as usize) {
             Some(ty) => write_func_at(out, types, *ty),
             None => Ok(()),
         },

@@ -1,4 +1,4 @@
-//! The reason of a refusal, if the bytes or the place determine it.
+//! The feature that is not supported, by its bytes.
 
 /// Returns which feature is not supported, by the bytes at its start. Unsupported are value types and instructions of floats and
 /// vectors, and those of later proposals.
@@ -13,22 +13,5 @@ pub fn unsupported(bytes: &[u8]) -> &'static str {
         [0xFD, ..] => "a vector instruction",
         [0xFE, ..] => "an atomic instruction",
         _ => "an instruction of a later proposal, or of none",
-    }
-}
-
-/// Returns the rules that a section can violate.
-pub fn rule(section: u8) -> &'static str {
-    match section {
-        2 => "an import names a type that is not there, or has limits out of order or too large",
-        3 => "a function names a type that is not there",
-        4 => "a table has limits out of order",
-        5 => "there is more than one memory, or it has limits out of order or too large",
-        6 => "the first value of a global is no constant expression of its type",
-        7 => "an export names what is not there, or two have one name",
-        8 => "the start function is not there, or takes or gives something",
-        9 =>
-            "an element segment names what is not there, or its table, an item or its offset is of another type",
-        11 => "a data segment has no memory, or its offset is no constant expression of type i32",
-        _ => "a rule is broken",
     }
 }

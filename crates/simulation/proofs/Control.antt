@@ -21,7 +21,7 @@ use Rattle.sidetable.specs.Flat.{Enter, size}
 use Rattle.cells.specs.Cells.{cell_of}
 use Rattle.simulation.specs.Piles.{cells_of}
 use Rattle.simulation.specs.Operations.{IsCharged}
-use Rattle.simulation.specs.Runs.{Ghost, IsBefore, Lacks, Leads, Runs, config_of, frame_of}
+use Rattle.simulation.specs.Runs.{Ghost, IsBefore, Lacks, FrameReaches, Runs, config_of, frame_of}
 use Rattle.simulation.specs.Settling.{LeavesTo, in_frame}
 use Rattle.simulation.specs.Standing.{EndsAt, StandsIn, last_height, under, values_under}
 use Rattle.simulation.proofs.Heights.{last-typed}
@@ -38,7 +38,7 @@ module _ (g : Ghost) (cells : List ℕ) (at top : ℕ) (values : List Val) (labe
       ≡ Goes cost g.store (frame_of g) (in_frame values' labels' rest')
       → (cells' : List ℕ) (at' top' fuel left : ℕ) → StandsIn g.code at' values' labels' rest' → length cells' ≡ length cells → take top' cells'
       ≡ map cell_of g.locals ++ cells_of (values' ++ values_under labels')
-      → top' ≡ length g.locals + (length values' + under labels') → cost ≤ fuel → left ≡ fuel - cost → Leads g fuel g.store cells' at' top' left
+      → top' ≡ length g.locals + (length values' + under labels') → cost ≤ fuel → left ≡ fuel - cost → FrameReaches g fuel g.store cells' at' top' left
   moved cost values' labels' rest' goes cells' at' top' fuel left stands size held top_is enough left_is =
       leads-then g g.store g.locals values' labels' rest' (in_frame values labels rest) (in_frame values' labels' rest') cost fuel left cells' at' top' leaves (inl goes) refl enough left_is
       (record {
@@ -88,7 +88,7 @@ module _ (g : Ghost) (cells : List ℕ) (at top : ℕ) where
       → next g.store (frame_of g) (Running values₀ rest₀) ≡ enter_label g.store (frame_of g) kind type (Some t) inside values rest
       → (at' top' fuel left : ℕ) → StandsIn g.code at' (take (length t.params) values) (label_of kind type t inside values rest ∷ labels) inside
       → take top' cells ≡ map cell_of g.locals ++ cells_of (values ++ values_under labels) → top' ≡ length g.locals + (length values + under labels)
-      → 1 ≤ fuel → left ≡ fuel - 1 → Leads g fuel g.store cells at' top' left
+      → 1 ≤ fuel → left ≡ fuel - 1 → FrameReaches g fuel g.store cells at' top' left
   label-entered values₀ rest₀ labels r leaves kind type t inside rest values le is at' top' fuel left stands held top_is enough left_is =
       let goes = labels-go g.store (frame_of g) labels 1 g.store (frame_of g) (Running values₀ rest₀) _ (is ∙ enter-goes g.store (frame_of g) kind type t inside rest values le) in
       let first = length-take-le (length t.params) values le in

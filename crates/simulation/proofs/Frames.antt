@@ -19,7 +19,7 @@ use Rattle.sidetable.specs.Counts.{Signatures, counts, counts_of}
 use Rattle.sidetable.specs.Flat.{FlatOp, Leave, flat, function_entry, size}
 use Rattle.sidetable.specs.declared.operations.Entry.{Entry}
 use Rattle.simulation.specs.Laws.{BeginsAt, code_at, function_label}
-use Rattle.simulation.specs.Runs.{GoesOn, StepsIn, none as none-in, then}
+use Rattle.simulation.specs.Runs.{NextContinues, StepsIn, none as none-in, then}
 use Rattle.simulation.specs.Standing.{EndsAt, FrameCode, StandsAt, StandsIn, last_height, under}
 use Rattle.simulation.proofs.Heights.{last-typed}
 use Rattle.simulation.proofs.Places.{past-flat}
@@ -75,7 +75,7 @@ module _ {H : Type 0} (HostStep : List H → ℕ → Option ℕ → List Val →
   steps-lifted-over store store' frame frame' c d fuel left (then {store' = between} {frame' = middle} {d = e} {cost = cost} is enough further) =
       Steps-join HostStep bound no_frame (one_more none (by is)) (steps-lifted-over between store' middle frame' e d (fuel - cost) left further)
     where
-      by : GoesOn (next store frame c) cost between middle e → IsStep HostStep bound no_frame (state store fuel) (plug layers frame c) (state between (fuel - cost)) (plug layers middle e)
+      by : NextContinues (next store frame c) cost between middle e → IsStep HostStep bound no_frame (state store fuel) (plug layers frame c) (state between (fuel - cost)) (plug layers middle e)
       by (inl is) =
           let whole : next store no_frame (plug layers frame c)
           ≡ Goes cost between no_frame (plug layers middle e) = rw (outside frame, outside middle) at

@@ -22,7 +22,7 @@ use Rattle.sidetable.specs.declared.operations.Entry.{Entry}
 use Rattle.cells.specs.Cells.{cell_of}
 use Rattle.simulation.specs.Piles.{cells_of}
 use Rattle.simulation.specs.Operations.{IsCharged, IsChosen}
-use Rattle.simulation.specs.Runs.{Ghost, IsBefore, Leads, Runs, config_of, frame_of}
+use Rattle.simulation.specs.Runs.{Ghost, IsBefore, FrameReaches, Runs, config_of, frame_of}
 use Rattle.simulation.specs.Settling.{LeavesTo, in_frame}
 use Rattle.simulation.specs.Standing.{StandsIn, under, values_under}
 use Rattle.simulation.proofs.Cells.{pile-pop, pile-top}
@@ -176,14 +176,14 @@ module _ (g : Ghost) (cells : List ℕ) (at top : ℕ) where
   -- ---- jumps
 
   -- A jump leaves the label of an if, at no cost.
-  pub jumps-on : (e : Entry) → IsBefore (Jump e) g cells at top → (fuel : ℕ) → Leads g fuel g.store cells e.target top fuel
+  pub jumps-on : (e : Entry) → IsBefore (Jump e) g cells at top → (fuel : ℕ) → FrameReaches g fuel g.store cells e.target top fuel
   jumps-on e b fuel =
       let s : Settled g cells at top = settled g cells at top b.runs in
       let (label, outer, labels_are, empty, stands, later) = jumps g.code at (Jump e) b.more b.there e.kept e.target e.height refl s.values s.labels s.rest s.runs.stands s.settled in
       by s label outer labels_are empty stands
     where
       by : (s : Settled g cells at top) (label : Label) (outer : List Label) → s.labels ≡ label ∷ outer → s.rest ≡ Empty
-          → StandsIn g.code e.target (s.values ++ label.values) outer label.rest → Leads g fuel g.store cells e.target top fuel
+          → StandsIn g.code e.target (s.values ++ label.values) outer label.rest → FrameReaches g fuel g.store cells e.target top fuel
       by s label outer labels_are empty stands =
           let runs₀ : Runs (on g g.locals s.values (label ∷ outer) Empty) cells at top = rw (labels_are, empty) at s.runs in
           let leaves₀ : LeavesTo g.store (frame_of g) (config_of g) (in_frame s.values (label ∷ outer) Empty) = rw (labels_are, empty) at s.leaves in

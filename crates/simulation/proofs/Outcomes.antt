@@ -33,7 +33,7 @@ use Rattle.cells.specs.Cells.{cell_of}
 use Rattle.simulation.specs.Outcomes.{ActsOnStore, Answers, HasOperands, HasOutcome, IsMade, IsOnStore, IsOutcome, Outcome, effect_of, entry_type, failed}
 use Rattle.simulation.specs.Outcomes.{grown, made, memory_instruction_type, instruction_type, table_instruction_type}
 use Rattle.simulation.specs.Piles.{cells_of}
-use Rattle.simulation.specs.Runs.{Ghost, GoesOn, IsBefore, frame_of, place_of}
+use Rattle.simulation.specs.Runs.{Ghost, NextContinues, IsBefore, frame_of, place_of}
 use Rattle.simulation.specs.Settling.{HasNoAnnotations}
 use Rattle.simulation.specs.Standing.{values_under}
 use Rattle.simulation.proofs.Cells.{cells-joined}
@@ -46,7 +46,7 @@ module _ (op : PlainOp) (g : Ghost) (cells : List ℕ) (at top : ℕ) (p : AtPla
     (w : Popped op g cells at top p n low) (counted : counts_of g.code.signatures op ≡ Some (counts n many)) where
   -- Results in place of the operands.
   makes : (cost : ℕ) (store' : Store) (results : List Val) → IsOutcome g.store many (made cost store' results)
-      → GoesOn (step_instruction g.store (frame_of g) op p.values p.rest) cost store' (frame_of g) (Running (results ++ w.others) p.rest) → IsMade g cost store' cells at low results
+      → NextContinues (step_instruction g.store (frame_of g) op p.values p.rest) cost store' (frame_of g) (Running (results ++ w.others) p.rest) → IsMade g cost store' cells at low results
   makes cost store' results (size_is, instances) goes cells' at' top' fuel left put size at_is top_new enough left_is =
       let top_is = p.runs.holds.top_is in
       let count = w.count in

@@ -17,7 +17,7 @@ use Rattle.cells.specs.Cells.{cell_of}
 use Rattle.simulation.specs.Piles.{cells_of}
 use Rattle.simulation.specs.Instructions.{IsTrapped}
 use Rattle.simulation.specs.Operations.{IsDear}
-use Rattle.simulation.specs.Runs.{AsksToGrow, Ghost, GoesOn, IsBefore, Lacks, Leads, Runs, StepsIn, config_of, frame_of}
+use Rattle.simulation.specs.Runs.{AsksToGrow, Ghost, NextContinues, IsBefore, Lacks, FrameReaches, Runs, StepsIn, config_of, frame_of}
 use Rattle.simulation.specs.Settling.{HasNoAnnotations, LeavesTo, in_frame, inside_labels}
 use Rattle.simulation.specs.Standing.{under, values_under}
 use Rattle.simulation.proofs.Settling.{begins, labels-go-on, labels-grow, written-so}
@@ -130,9 +130,10 @@ module _ (op : PlainOp) (g : Ghost) (cells : List ℕ) (at top : ℕ) (p : AtPla
   found = inner here p.runs.typed
 
   module _ (cost : ℕ) (store' : Store) (locals values : List Val)
-      (goes : GoesOn (step_instruction g.store (frame_of g) op p.values p.rest) cost store' (record { instance = Some g.instance; locals = locals })
+      (goes : NextContinues (step_instruction g.store (frame_of g) op p.values p.rest) cost store' (record { instance = Some g.instance; locals = locals })
       (Running values p.rest)) where
-    goes_here : GoesOn (next g.store (frame_of g) (in_frame p.values p.labels (Then op p.rest))) cost store' (record { instance = Some g.instance; locals = locals }) (in_frame values p.labels p.rest)
+    goes_here : NextContinues (next g.store (frame_of g) (in_frame p.values p.labels (Then op p.rest))) cost store'
+        (record { instance = Some g.instance; locals = locals }) (in_frame values p.labels p.rest)
     goes_here = labels-go-on g.store (frame_of g) p.labels cost store' (record { instance = Some g.instance; locals = locals }) (Running p.values (Then op p.rest)) (Running values p.rest) goes
 
     pub advance : store'.instances ≡ g.store.instances → (c : Counts) → counts_of g.code.signatures op ≡ Some c
@@ -140,7 +141,7 @@ module _ (op : PlainOp) (g : Ghost) (cells : List ℕ) (at top : ℕ) (p : AtPla
         ≡ length g.locals
         → (cells' : List ℕ) (at' top' fuel left : ℕ) → length cells' ≡ length cells → at' ≡ suc at → top'
         ≡ length locals + (length values + under p.labels) → take top' cells' ≡ map cell_of locals ++ cells_of (values ++ values_under p.labels)
-        → cost ≤ fuel → left ≡ fuel - cost → Leads g fuel store' cells' at' top' left
+        → cost ≤ fuel → left ≡ fuel - cost → FrameReaches g fuel store' cells' at' top' left
     advance instances c is many same cells' at' top' fuel left size at_is top_is held enough left_is =
         leads-then g store' locals values p.labels p.rest (in_frame p.values p.labels (Then op p.rest)) (in_frame values p.labels p.rest) cost fuel
         left cells' at' top' p.leaves goes_here refl enough left_is
@@ -162,7 +163,7 @@ module _ (op : PlainOp) (g : Ghost) (cells : List ℕ) (at top : ℕ) (p : AtPla
       (advanced g.code p.runs.stands.entries _ at op p.rest p.runs.stands.end p.runs.stands.last c is p.runs.stands.here)
 
   -- The machine arrives there at no cost.
-  abbrev leads-here : (fuel : ℕ) → Leads g fuel g.store cells at top fuel
+  abbrev leads-here : (fuel : ℕ) → FrameReaches g fuel g.store cells at top fuel
   leads-here fuel = record {
     new = here;
     same = record { code = refl; instance = refl; types = refl; results = refl };

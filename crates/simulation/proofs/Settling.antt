@@ -12,7 +12,7 @@ use Rattle.meaning.specs.execution.Instructions.{Goes, Grows, next, step_in_labe
 use Rattle.meaning.specs.execution.Store.{Store}
 use Rattle.sidetable.specs.Flat.{FlatOp, Jump, Leave, entry_of, flat_op, without_annotations}
 use Rattle.sidetable.specs.declared.operations.Entry.{Entry}
-use Rattle.simulation.specs.Runs.{GoesOn}
+use Rattle.simulation.specs.Runs.{NextContinues}
 use Rattle.simulation.specs.Standing.{FrameCode, GoesOnAt, IsAtEnd, StandsIn, values_under}
 use Rattle.simulation.specs.Settling.{BeginsWith, HasNoAnnotations, IsSettled, leave, stay, Settles, in_frame, inside_labels}
 use Rattle.simulation.proofs.Steps.{left}
@@ -29,7 +29,7 @@ module _ (store : Store) (frame : Frame) where
   labels-grow (label ∷ labels) cost store' frame' x y e = labels-grow labels cost store' frame' (InLabel label x) (InLabel label y) (ap (step_in_label store frame label) e)
 
   pub labels-go-on : (labels : List Label) (cost : ℕ) (store' : Store) (frame' : Frame) (x y : Configuration)
-      → GoesOn (next store frame x) cost store' frame' y → GoesOn (next store frame (inside_labels labels x)) cost store' frame' (inside_labels labels y)
+      → NextContinues (next store frame x) cost store' frame' y → NextContinues (next store frame (inside_labels labels x)) cost store' frame' (inside_labels labels y)
   labels-go-on labels cost store' frame' x y (inl e) = inl (labels-go labels cost store' frame' x y e)
   labels-go-on labels cost store' frame' x y (inr e) = inr (labels-grow labels cost store' frame' x y e)
 

@@ -12,7 +12,7 @@ use Rattle.soundness.specs.Configurations.{ConfigurationHasType, FrameHasPlace, 
 use Rattle.soundness.specs.Places.{Place, RunsOn}
 use Rattle.soundness.specs.Stores.{StoreIsValid}
 use Rattle.soundness.proofs.Steps.{stays-good}
-use Rattle.simulation.specs.Runs.{Ghost, GoesOn, IsSameFrame, IsTyped, Leads, Runs, StepsIn, config_of, frame_of, none, place_of, then}
+use Rattle.simulation.specs.Runs.{Ghost, NextContinues, IsSameFrame, IsTyped, FrameReaches, Runs, StepsIn, config_of, frame_of, none, place_of, then}
 use Rattle.simulation.specs.Settling.{IsSettled, LeavesTo, Settles, in_frame, inside_labels, leave, stay}
 use Rattle.simulation.specs.Standing.{under, values_under}
 use Rattle.simulation.proofs.Settling.{settles}
@@ -42,14 +42,14 @@ module _ (g : Ghost) (t : IsTyped g) where
   pub is-good : (n : Next) → next g.store (frame_of g) (config_of g) ≡ n → IsGood g.store (place_of g) g.results n
   is-good n e = rw e at good
 
-  good-then : (cost : ℕ) (store' : Store) (frame' : Frame) (c : Configuration) → GoesOn (next g.store (frame_of g) (config_of g)) cost store' frame' c
+  good-then : (cost : ℕ) (store' : Store) (frame' : Frame) (c : Configuration) → NextContinues (next g.store (frame_of g) (config_of g)) cost store' frame' c
       → IsGood g.store (place_of g) g.results (Goes cost store' frame' c)
   good-then cost store' frame' c (inl e) = is-good _ e
   good-then cost store' frame' c (inr e) = is-good _ e
 
   -- A step keeps the types. Instances stay, and so do functions.
   pub typed-then : (cost : ℕ) (store' : Store) (locals values : List Val) (labels : List Label) (rest : Body) → store'.instances ≡ g.store.instances
-      → GoesOn (next g.store (frame_of g) (config_of g)) cost store' (record { instance = Some g.instance; locals = locals }) (in_frame values labels rest)
+      → NextContinues (next g.store (frame_of g) (config_of g)) cost store' (record { instance = Some g.instance; locals = locals }) (in_frame values labels rest)
       → IsTyped (over g store' locals values labels rest)
   typed-then cost store' locals values labels rest instances e =
       let (more, valid, own, typed) = good-then cost store' (record { instance = Some g.instance; locals = locals }) (in_frame values labels rest) e in
@@ -169,8 +169,9 @@ settled g cells at top r =
 
 -- Labels that are left, and then a step.
 pub leads-then : (g : Ghost) (store' : Store) (locals values : List Val) (labels : List Label) (rest : Body) (c d : Configuration) (cost fuel left : ℕ) (cells : List ℕ) (at top : ℕ)
-    → LeavesTo g.store (frame_of g) (config_of g) c → GoesOn (next g.store (frame_of g) c) cost store' (record { instance = Some g.instance; locals = locals }) d → d ≡ in_frame values labels rest
-    → cost ≤ fuel → left ≡ fuel - cost → Runs (over g store' locals values labels rest) cells at top → Leads g fuel store' cells at top left
+    → LeavesTo g.store (frame_of g) (config_of g) c → NextContinues (next g.store (frame_of g) c) cost store' (record { instance = Some g.instance; locals = locals }) d
+    → d ≡ in_frame values labels rest
+    → cost ≤ fuel → left ≡ fuel - cost → Runs (over g store' locals values labels rest) cells at top → FrameReaches g fuel store' cells at top left
 leads-then g store' locals values labels rest c d cost fuel left cells at top leaves e same enough left_is runs = record {
   new = over g store' locals values labels rest;
   same = same-frame g store' locals values labels rest;

@@ -13,7 +13,7 @@ use Rattle.meaning.specs.execution.Store.{Store, instance_of}
 use Rattle.cells.specs.Cells.{IsCellOf}
 use Rattle.sidetable.specs.Flat.{Plain}
 use Rattle.simulation.specs.Operations.{IsCharged, IsChosen, IsDear}
-use Rattle.simulation.specs.Runs.{Fails, Ghost, IsBefore, Leads}
+use Rattle.simulation.specs.Runs.{Fails, Ghost, IsBefore, FrameReaches}
 
 -- ---- results of steps
 
@@ -23,7 +23,7 @@ IsKept g store' cells at below =
     (cells' : List ℕ) (next_at next_top fuel left : ℕ)
     → take below cells' ≡ take below cells → length cells' ≡ length cells
     → next_at ≡ suc at → next_top ≡ below → 1 ≤ fuel → left ≡ fuel - 1
-    → Leads g fuel store' cells' next_at next_top left
+    → FrameReaches g fuel store' cells' next_at next_top left
 
 -- The cell at a height is written, and the code continues with the next operation.
 abbrev pub IsPut : Ghost → List ℕ → (at : ℕ) → (cell below : ℕ) → Type 0
@@ -31,7 +31,7 @@ IsPut g cells at cell below =
     (cells' : List ℕ) (next_at next_top fuel left : ℕ)
     → take (suc below) cells' ≡ take below cells ++ (cell ∷ [])
     → length cells' ≡ length cells → next_at ≡ suc at → next_top ≡ suc below → 1 ≤ fuel
-    → left ≡ fuel - 1 → Leads g fuel g.store cells' next_at next_top left
+    → left ≡ fuel - 1 → FrameReaches g fuel g.store cells' next_at next_top left
 
 -- The code fails with a trap.
 abbrev pub IsTrapped : Ghost → List ℕ → (at top : ℕ) → Trap → Type 0

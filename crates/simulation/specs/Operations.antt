@@ -2,7 +2,7 @@
 use Rattle.std.specs.Prelude.{◌≡◌, ℕ, suc, ◌+◌, ◌-◌, ◌<◌, ◌≤◌, List, ◌++◌, length, take, drop, get_or}
 use Rattle.sidetable.specs.Flat.{Br, BrIf, BrTable, Enter, If, Jump}
 use Rattle.sidetable.specs.declared.operations.Entry.{Entry}
-use Rattle.simulation.specs.Runs.{Ghost, IsBefore, Lacks, Leads}
+use Rattle.simulation.specs.Runs.{Ghost, IsBefore, Lacks, FrameReaches}
 
 -- ---- results of steps
 
@@ -14,7 +14,7 @@ IsDear g cells at top = (fuel : ℕ) → fuel < 1 → Lacks g fuel cells at top 
 abbrev pub IsCharged : Ghost → List ℕ → (at top : ℕ) → (next_at next_top : ℕ) → Type 0
 IsCharged g cells at top next_at next_top =
     ((fuel left : ℕ) → 1 ≤ fuel → left ≡ fuel - 1
-    → Leads g fuel g.store cells next_at next_top left)
+    → FrameReaches g fuel g.store cells next_at next_top left)
     × IsDear g cells at top
 
 -- The topmost cells, as many as the entry keeps, are moved down to its height, which is above the locals. The code continues where the
@@ -26,7 +26,7 @@ IsLanded g cells at top above e =
     → take (e.height + e.kept) cells'
     ≡ take e.height cells ++ take e.kept (drop (above - e.kept) cells)
     → length cells' ≡ length cells → 1 ≤ fuel → left ≡ fuel - 1
-    → Leads g fuel g.store cells' e.target (e.height + e.kept) left)
+    → FrameReaches g fuel g.store cells' e.target (e.height + e.kept) left)
     × IsDear g cells at top
     × (g.code.locals ≤ e.height)
 
@@ -55,7 +55,7 @@ Chooses =
 abbrev pub Jumps : Type 0
 Jumps =
     (g : Ghost) (cells : List ℕ) (at top : ℕ) (e : Entry) → IsBefore (Jump e) g cells at top
-    → (at < e.target) × ((fuel : ℕ) → Leads g fuel g.store cells e.target top fuel)
+    → (at < e.target) × ((fuel : ℕ) → FrameReaches g fuel g.store cells e.target top fuel)
 
 -- br.
 abbrev pub Branches : Type 0

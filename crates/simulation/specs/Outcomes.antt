@@ -22,7 +22,7 @@ use Rattle.sidetable.specs.Flat.{Plain}
 use Rattle.simulation.specs.Instructions.{IsTrapped}
 use Rattle.simulation.specs.Operations.{IsDear}
 use Rattle.simulation.specs.Piles.{cells_of}
-use Rattle.simulation.specs.Runs.{AsksToGrow, Ghost, IsBefore, Lacks, Leads, frame_of}
+use Rattle.simulation.specs.Runs.{AsksToGrow, Ghost, IsBefore, Lacks, FrameReaches, frame_of}
 use Rattle.simulation.specs.Settling.{HasNoAlignment}
 
 -- ---- outcomes
@@ -55,7 +55,7 @@ IsMade g cost store' cells at below results =
     (cells' : List ℕ) (next_at next_top fuel left : ℕ)
     → take next_top cells' ≡ take below cells ++ cells_of results → length cells' ≡ length cells
     → next_at ≡ suc at → next_top ≡ below + length results → cost ≤ fuel → left ≡ fuel - cost
-    → Leads g fuel store' cells' next_at next_top left
+    → FrameReaches g fuel store' cells' next_at next_top left
 
 -- Without fuel for the cost, the code lacks fuel.
 abbrev pub IsDearAt : Ghost → (cost : ℕ) → List ℕ → (at top : ℕ) → Type 0

@@ -68,8 +68,8 @@ pub record IsBefore (o : FlatOp) (g : Ghost) (cells : List ℕ) (at top : ℕ) :
   pub there : drop at g.code.operations ≡ o ∷ more
 
 -- The next step continues, at this cost. A table or a memory may grow for it.
-abbrev pub GoesOn : Next → (cost : ℕ) → Store → Frame → Configuration → Type 0
-GoesOn n cost store frame c = (n ≡ Goes cost store frame c) ⊎ (n ≡ Grows cost store frame c)
+abbrev pub NextContinues : Next → (cost : ℕ) → Store → Frame → Configuration → Type 0
+NextContinues n cost store frame c = (n ≡ Goes cost store frame c) ⊎ (n ≡ Grows cost store frame c)
 
 -- Steps in a frame, none of which opens another one or calls a host function.
 pub data StepsIn : Store → Frame → Configuration → (fuel : ℕ) → Store → Frame → Configuration
@@ -78,7 +78,7 @@ pub data StepsIn : Store → Frame → Configuration → (fuel : ℕ) → Store 
       → StepsIn store frame c fuel store frame c fuel
   then : {store store' store'' : Store} {frame frame' frame'' : Frame} {c d e : Configuration}
       {cost fuel left : ℕ}
-      → GoesOn (next store frame c) cost store' frame' d → cost ≤ fuel
+      → NextContinues (next store frame c) cost store' frame' d → cost ≤ fuel
       → StepsIn store' frame' d (fuel - cost) store'' frame'' e left
       → StepsIn store frame c fuel store'' frame'' e left
 
@@ -90,7 +90,7 @@ pub record IsSameFrame (old new : Ghost) : Type 0 where
   pub results : new.results ≡ old.results
 
 -- What runs leads, with this fuel, to this store and to what the machine runs then.
-pub record Leads (g : Ghost) (fuel : ℕ) (store' : Store) (cells : List ℕ) (at top left : ℕ)
+pub record FrameReaches (g : Ghost) (fuel : ℕ) (store' : Store) (cells : List ℕ) (at top left : ℕ)
     : Type 0 where
   pub new : Ghost
   pub same : IsSameFrame g new
@@ -101,18 +101,18 @@ pub record Leads (g : Ghost) (fuel : ℕ) (store' : Store) (cells : List ℕ) (a
 
 -- It leads, with the store unchanged, to where the next step costs more than the fuel left.
 pub record Lacks (g : Ghost) (fuel : ℕ) (cells : List ℕ) (at top left : ℕ) : Type 0 where
-  pub leads : Leads g fuel g.store cells at top left
+  pub leads : FrameReaches g fuel g.store cells at top left
   pub dear : left < price (next leads.new.store (frame_of leads.new) (config_of leads.new))
 
 -- It leads, with the store unchanged, to where the next step traps, for one unit of fuel.
 pub record Fails (g : Ghost) (fuel : ℕ) (cells : List ℕ) (at top left : ℕ) (trap : Trap)
     : Type 0 where
-  pub leads : Leads g fuel g.store cells at top (left + 1)
+  pub leads : FrameReaches g fuel g.store cells at top (left + 1)
   pub traps : next leads.new.store (frame_of leads.new) (config_of leads.new) ≡ Traps 1 trap
 
 -- It leads, with the store unchanged, to where a table or a memory grows next, at this cost.
 pub record AsksToGrow (g : Ghost) (fuel : ℕ) (cells : List ℕ) (at top cost : ℕ) : Type 0 where
-  pub leads : Leads g fuel g.store cells at top fuel
+  pub leads : FrameReaches g fuel g.store cells at top fuel
   pub grown : Store
   pub frame : Frame
   pub behind : Configuration

@@ -43,7 +43,7 @@ pub record AreWithin (bounds : Bounds) (tables : List TableInstance)
   pub few_pages : All (IsMemoryWithin bounds.pages) memories
 
 -- There is room for these objects.
-pub record Fits (room : Room) (objects : ObjectLists) : Type 0 where
+pub record IsRoomFor (room : Room) (objects : ObjectLists) : Type 0 where
   pub tables : length objects.tables ≤ room.tables
   pub memories : length objects.memories ≤ room.memories
   pub globals : length objects.globals ≤ room.globals

@@ -7,7 +7,7 @@ ghost use Rattle.meaning.specs.execution.Storage.{items_at, overwrite};
 ghost use Rattle.meaning.specs.execution.Tables.{grow_entries};
 ghost use Rattle.meaning.specs.execution.Values.{type_of};
 ghost use Rattle.meaning.specs.validation.Types.{reference_type, most_pages};
-ghost use Rattle.store.specs.State.{AreWithin, Fits, append_objects, data_of, elements_of, global_of, memory_of, no_memory, no_objects, put_data, put_elements, put_global, put_memory, put_table, table_of};
+ghost use Rattle.store.specs.State.{AreWithin, IsRoomFor, append_objects, data_of, elements_of, global_of, memory_of, no_memory, no_objects, put_data, put_elements, put_global, put_memory, put_table, table_of};
 ghost use Rattle.store.specs.Tables.{with_entries};
 
 use crate::globals::GlobalVariable;
@@ -199,7 +199,7 @@ impl State {
     pub fn reserve_all(&mut self, objects: &Objects) -> Result<(), AllocError>
         ensures contents { self.new.contents ≡ self.old.contents }
         ensures bounds { self.new.bounds ≡ self.old.bounds }
-        ensures fits { OnOk result (Fits self.new.room objects.now) }
+        ensures fits { OnOk result (IsRoomFor self.new.room objects.now) }
     {
         self.tables.try_reserve(objects.tables.len())?;
         self.memories.try_reserve(objects.memories.len())?;
@@ -211,7 +211,7 @@ impl State {
 
     /// Appends objects for which there is room. Allocates nothing.
     pub fn append_all(&mut self, mut objects: Objects)
-        requires fits { Fits self.old.room objects }
+        requires fits { IsRoomFor self.old.room objects }
         requires within { AreWithin self.old.bounds objects.tables objects.memories }
         ensures contents { self.new.contents ≡ append_objects self.old.contents objects }
         ensures bounds { self.new.bounds ≡ self.old.bounds }

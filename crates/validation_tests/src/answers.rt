@@ -1,6 +1,8 @@
 //! The results for the bytes of modules, and rows that state them.
 
 use binary::{DecodeError, decode};
+use core_types::Module;
+use explanation::explain_function;
 use std::alloc::{AllocError, Global};
 use std::process::Abort;
 use testing::{AssembleError, assemble, bytes_of};
@@ -53,19 +55,60 @@ pub fn refusal_of(alloc: Global, text: &str) -> Option<Refusal> {
     }
 }
 
-// Returns why a module with these sections is not valid, or none if it is valid. The sections are in hexadecimal.
-fn refusal_of_sections(alloc: Global, sections: &str) -> Result<Option<Refusal>, AllocError> {
-    let mut bytes = bytes_of(alloc, HEADER)?;
-    bytes.extend_from_slice(bytes_of(alloc, sections)?.as_slice())?;
-    Ok(load(alloc, &bytes).err())
-}
-
 // Returns whether a word states this result.
 fn is_named(refusal: Option<Refusal>, word: &str) -> bool {
     match refusal {
         None => word == "valid",
         Some(Refusal::Invalid(_)) => word == "invalid",
         Some(Refusal::Undecoded | Refusal::OutOfMemory) => false,
+    }
+}
+
+// Returns whether a body has an explanation exactly if it is the one that a refusal names.
+fn is_explained(
+    alloc: Global,
+    module: &Module,
+    bytes: &[u8],
+    body: usize,
+    refusal: Option<Refusal>,
+) -> bool {
+    let is_named = refusal == Some(Refusal::Invalid(Place::Func(body)));
+    match explain_function(alloc, module, bytes, body) {
+        Ok(text) => text.is_some() == is_named,
+        Err(_) => false,
+    }
+}
+
+// Returns how many bodies are known to be valid or not: all of a valid module, and those up to the first one that is not valid.
+fn judged_bodies(module: &Module, refusal: Option<Refusal>) -> usize {
+    match refusal {
+        None => module.funcs.len(),
+        Some(Refusal::Invalid(Place::Func(body))) => body.saturating_add(1),
+        Some(_) => 0,
+    }
+}
+
+// Returns whether the bodies of a module have explanations exactly where a refusal says that they are not valid.
+fn are_explained(alloc: Global, bytes: &[u8], refusal: Option<Refusal>) -> bool {
+    let Ok(module) = decode(alloc, bytes) else {
+        return true;
+    };
+    (0..judged_bodies(&module, refusal)).all(|body| is_explained(
+        alloc, &module, bytes, body, refusal,
+    ))
+}
+
+// Returns whether a word states the result for bytes, and the explanations agree.
+fn gives(alloc: Global, bytes: &[u8], word: &str) -> bool {
+    let refusal = load(alloc, bytes).err();
+    is_named(refusal, word) && are_explained(alloc, bytes, refusal)
+}
+
+// Returns whether a word states the result for a module in the text format.
+fn text_gives(alloc: Global, text: &str, word: &str) -> bool {
+    match assemble(alloc, text) {
+        Ok(bytes) => gives(alloc, &bytes, word),
+        Err(_) => false,
     }
 }
 
@@ -88,11 +131,7 @@ pub fn check_rows(rt: &impl Abort, alloc: Global, rows: &str, count: usize) {
     assert!(rt; rows.lines().count() == count, "{count} rows");
     for text in rows.lines() {
         let row = read_row(text);
-        assert!(rt;
-            is_named(refusal_of(alloc, row.source), row.word),
-            "{}",
-            row.name
-        );
+        assert!(rt; text_gives(alloc, row.source, row.word), "{}", row.name);
     }
 }
 
@@ -100,7 +139,7 @@ pub fn check_rows(rt: &impl Abort, alloc: Global, rows: &str, count: usize) {
 fn agrees_after(alloc: Global, types: &str, row: Row<'_>) -> Result<bool, AllocError> {
     let mut text = String::from_str(alloc, types)?;
     text.push_str(row.source)?;
-    Ok(is_named(refusal_of(alloc, text.as_str()), row.word))
+    Ok(text_gives(alloc, text.as_str(), row.word))
 }
 
 /// Like `check_rows`. Each module begins with these types.
@@ -114,7 +153,9 @@ pub fn check_rows_after(rt: &impl Abort, alloc: Global, types: &str, rows: &str,
 
 // Returns whether a row states the right result. Its module consists of sections in hexadecimal.
 fn agrees(alloc: Global, row: Row<'_>) -> Result<bool, AllocError> {
-    Ok(is_named(refusal_of_sections(alloc, row.source)?, row.word))
+    let mut bytes = bytes_of(alloc, HEADER)?;
+    bytes.extend_from_slice(bytes_of(alloc, row.source)?.as_slice())?;
+    Ok(gives(alloc, &bytes, row.word))
 }
 
 /// Tests the rows of a text, one per line, and that there are `count` of them. Their modules consist of sections in

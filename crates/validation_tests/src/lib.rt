@@ -10,7 +10,11 @@ mod control;
 #[cfg(test)]
 mod descriptions;
 #[cfg(test)]
+mod explanations;
+#[cfg(test)]
 mod import_matching;
+#[cfg(test)]
+mod long_types;
 #[cfg(test)]
 mod memories;
 #[cfg(test)]

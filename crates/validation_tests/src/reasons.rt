@@ -30,22 +30,6 @@ static TYPES: [(&str, &str); 3] = [
     ("7B", "the vector type"),
 ];
 
-// The text of an invalid module, and the line for it.
-#[rattlefmt::skip]
-static INVALID: [(&str, &str); 10] = [
-    ("(func) (func (result i32) i64.const 1)", "invalid module: function 1\n"),
-    ("(import \"m\" \"t\" (table 2 1 funcref))", "invalid module: section 2: an import names a type that is not there, or has limits out \
-        of order or too large\n"),
-    ("(func (type 0)) (func (type 7))", "invalid module: section 3: a function names a type that is not there\n"),
-    ("(table 2 1 funcref)", "invalid module: section 4: a table has limits out of order\n"),
-    ("(memory 1) (memory 1)", "invalid module: section 5: there is more than one memory, or it has limits out of order or too large\n"),
-    ("(global i32 i64.const 0)", "invalid module: section 6: the first value of a global is no constant expression of its type\n"),
-    ("(func) (export \"f\" (func 0)) (export \"f\" (func 0))", "invalid module: section 7: an export names what is not there, or two have one name\n"),
-    ("(func (param i32)) (start 0)", "invalid module: section 8: the start function is not there, or takes or gives something\n"),
-    ("(func) (elem func 1)", "invalid module: section 9: an element segment names what is not there, or its table, an item or its offset is of another type\n"),
-    ("(data (offset i32.const 0) \"x\")", "invalid module: section 11: a data segment has no memory, or its offset is no constant expression of type i32\n"),
-];
-
 // Bytes in hexadecimal that encode no module, and the line for them.
 static MALFORMED: [(&str, &str); 3] = [
     ("", "malformed module at byte 0\n"),
@@ -73,16 +57,16 @@ fn has_line(alloc: Global, bytes: &[u8], line: &str) -> bool {
     matches!(verdict, Ok(Verdict::Refused)) && out.as_slice() == line.as_bytes()
 }
 
-// Returns whether the bytes of a text in hexadecimal are refused with this line.
-fn bytes_have_line(alloc: Global, hexadecimal: &str, line: &str) -> bool {
+/// Returns whether the bytes of a text in hexadecimal are refused with this line.
+pub fn bytes_have_line(alloc: Global, hexadecimal: &str, line: &str) -> bool {
     match bytes_of(alloc, hexadecimal) {
         Ok(bytes) => has_line(alloc, bytes.as_slice(), line),
         Err(_) => false,
     }
 }
 
-// Returns whether the module of a text is refused with this line.
-fn text_has_line(alloc: Global, text: &str, line: &str) -> bool {
+/// Returns whether the module of a text is refused with this line.
+pub fn text_has_line(alloc: Global, text: &str, line: &str) -> bool {
     match assemble(alloc, text) {
         Ok(bytes) => has_line(alloc, bytes.as_slice(), line),
         Err(_) => false,
@@ -137,12 +121,5 @@ fn functions_of_floats_are_named(rt: HostRuntime) {
 fn malformed_bytes_are_placed(rt: HostRuntime) {
     for (bytes, line) in &MALFORMED {
         assert!(rt; bytes_have_line(rt.alloc(), bytes, line), "{bytes}");
-    }
-}
-
-#[test]
-fn broken_rules_are_named(rt: HostRuntime) {
-    for (module, line) in &INVALID {
-        assert!(rt; text_has_line(rt.alloc(), module, line), "{module}");
     }
 }

@@ -1,8 +1,8 @@
 -- A body that is typed in its context has the type of its function, and a body that is not typed does not.
-use Rattle.std.proofs.Common.{◌≡◌, ◌<◌, [], List, ◌++◌, ap, arith, length, map, refl, subst, sym, ◌∙◌}
+use Rattle.std.proofs.Common.{◌≡◌, ◌<◌, [], List, ◌++◌, arith, length, map, refl, subst, sym, ◌∙◌}
 use Rattle.std.proofs.lemmas.List.{length-map}
 use Rattle.std.proofs.lemmas.Option.{slice_get_within}
-use Rattle.std.specs.Prelude.{None, Some, slice_get}
+use Rattle.std.specs.Prelude.{Bool, None, Some, slice_get}
 use Rattle.core_types.specs.declared.module.Func.{Func}
 use Rattle.core_types.specs.declared.module.Module.{Module}
 use Rattle.core_types.specs.declared.op.Op.{Op}
@@ -12,10 +12,10 @@ use Rattle.meaning.specs.validation.Context.{Context}
 use Rattle.meaning.specs.validation.Instructions.{HasType, known}
 use Rattle.meaning.specs.validation.Modules.{body_context, function_indices, module_context, IsValidFunction, type_at}
 use Rattle.validator.specs.declared.context.BodyContext.{BodyContext}
-use Rattle.validator.specs.declared.context.IndexSpaces.{IndexSpaces}
+use Rattle.index_spaces.specs.declared.IndexSpaces.{IndexSpaces}
 use Rattle.validator.specs.Completeness.{IsUntyped}
 use Rattle.validator.specs.Contexts.{Describes, IsBodyOf}
-use Rattle.validator.specs.IndexSpaces.{AreIndexSpaces}
+use Rattle.index_spaces.specs.IndexSpaces.{AreIndexSpaces}
 use Rattle.validator.specs.References.{HasMarks}
 use Rattle.validator.specs.Soundness.{IsTyped}
 
@@ -23,9 +23,9 @@ use Rattle.validator.specs.Soundness.{IsTyped}
 abbrev outside : Module → FuncType → List ValType → Context
 outside m ty locals = record (module_context m) { locals = ty.params ++ locals; results = Some ty.results }
 
-module _ (m : Module) (s : IndexSpaces) (spaces : AreIndexSpaces m s) (marks : HasMarks m s) (f : Func) (ty : FuncType) (lent : BodyContext)
+module _ (m : Module) (s : IndexSpaces) (spaces : AreIndexSpaces m s) {marks : List Bool} (has_marks : HasMarks m marks) (f : Func) (ty : FuncType) (lent : BodyContext)
     (types_are : lent.types.now ≡ m.types) (elements_are : lent.elements.now ≡ m.elements) (datas_are : lent.datas ≡ length m.datas)
-    (spaces_is : lent.spaces.now ≡ s) (params_are : lent.params.now ≡ ty.params)
+    (spaces_is : lent.spaces.now ≡ s) (declared_are : lent.declared.now ≡ marks) (params_are : lent.params.now ≡ ty.params)
     (locals_are : lent.locals.now ≡ f.locals) (results_are : lent.results.now ≡ ty.results) where
   describes : Describes lent (outside m ty f.locals)
   describes = record {
@@ -39,11 +39,11 @@ module _ (m : Module) (s : IndexSpaces) (spaces : AreIndexSpaces m s) (marks : H
     locals = rw (params_are, locals_are) refl;
     labels = refl;
     results = rw results_are refl;
-    references = λ x set. spaces.declared x (rw spaces_is at set);
+    references = λ x set. has_marks.named x (rw declared_are at set);
     marks = λ x type found named.
         let inside = slice_get_within (map (type_at m.types) (function_indices m)) x type found in
-        let there : x < length s.functions.items = omega (arith, inside, length-map (function_indices m) (type_at m.types), ap length spaces.functions) in
-        rw spaces_is (marks.set x there named);
+        let there : x < length (function_indices m) = omega (arith, inside, length-map (function_indices m) (type_at m.types)) in
+        rw declared_are (has_marks.set x there named);
   }
 
   pub function_valid : slice_get m.types f.ty ≡ Some ty → (ops : List Op) → ops ≡ f.body → IsTyped lent ops → IsValidFunction m f

@@ -1,11 +1,12 @@
 -- A label by its index, from the inside out.
-use Rattle.std.proofs.Common.{◌≡◌, ℕ, zero, suc, ◌-◌, ◌<◌, ◌≤◌, List, ◌∷◌, length, map, reverse, get_or, ap, ◌∙◌, subst, sym, None, Some, true, eqb, arith}
+use Rattle.std.proofs.Common.{◌≡◌, ℕ, zero, suc, ◌-◌, ◌<◌, ◌≤◌, List, [], ◌∷◌, length, map, reverse, get_or, ap, ◌∙◌, refl, subst, sym, None, Some, true, eqb, arith}
 use Rattle.std.proofs.lemmas.List.Elements.{All-get_or, All-weaker}
 use Rattle.std.proofs.lemmas.List.{length-map, length-reverse, get_or-reverse, get_or-map}
 use Rattle.std.proofs.lemmas.Option.{slice_get-get_or}
 use Rattle.std.proofs.lemmas.Bool.{eqb-true}
 use Rattle.std.specs.Option.{option_eq}
 use Rattle.std.specs.Prelude.{All, IfSome, Option, slice_get}
+use Rattle.core_types.specs.declared.types.OperandType.TheVariants.{Known}
 use Rattle.core_types.specs.declared.types.OperandType.{OperandType}
 use Rattle.core_types.specs.declared.types.ValType.{ValType}
 use Rattle.meaning.proofs.lemmas.Typing.{AllFit-through}
@@ -68,3 +69,13 @@ carry-through innermost outer taken given ns fit all = All-weaker (FitsLabelAt i
 pub same-label : (P : ℕ → Type 0) (kept : Option ℕ) (n : ℕ) → option_eq eqb kept (Some n) ≡ true → IfSome kept P → P n
 same-label P None n is holds = absurd cc
 same-label P (Some m) n is holds = subst P (eqb-true m n is) holds
+
+-- Known operands fit only their own types.
+pub AllFit-known : (types others : List ValType) → AllFit (known types) (known others) → types ≡ others
+AllFit-known [] [] fits = refl
+AllFit-known [] (u ∷ others) fits = absurd fits
+AllFit-known (t ∷ types) [] fits = absurd fits
+AllFit-known (t ∷ types) (u ∷ others) fits =
+    let same : Known u ≡ Known t = fits.0 in
+    let one : t ≡ u = cc in
+    ap (λ (x : ValType). x ∷ types) one ∙ ap (λ (z : List ValType). u ∷ z) (AllFit-known types others fits.1)

@@ -1,9 +1,9 @@
 pub mod Alignments
 pub mod Expressions
 pub mod FunctionBodies
-pub mod IndexSpaces
 pub mod Labels
 pub mod ListLoops
+pub mod OperandEntries
 pub mod OperandStack
 pub mod Pops
 pub mod References

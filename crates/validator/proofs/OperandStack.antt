@@ -1,7 +1,7 @@
 -- Laws of what is taken from a frame's operands.
-use Rattle.std.proofs.Common.{◌≡◌, ℕ, zero, suc, ◌+◌, ◌<◌, ◌≤◌, set, Bool, List, [], ◌∷◌, ◌++◌, length, take, drop, reverse, get_or, replicate, refl, sym, ap, ◌∙◌, inl, inr, append_assoc, arith}
-use Rattle.std.proofs.lemmas.List.{append-nil, drop_more, length-set, map-append, replicate-append-replicate, reverse-append, take_all, take_more, take_more_set}
-use Rattle.std.specs.Prelude.{Option, Some, None, IfSome, option_to_list}
+use Rattle.std.proofs.Common.{◌≡◌, ℕ, zero, suc, ◌+◌, ◌<◌, ◌≤◌, set, Bool, true, List, [], ◌∷◌, ◌++◌, length, length-append, take, drop, reverse, get_or, replicate, refl, sym, ap, ◌∙◌, inl, inr, append_assoc, arith}
+use Rattle.std.proofs.lemmas.List.{append-nil, drop_more, length-set, length-take-le, map-append, nil_from_length, replicate-append-replicate, reverse-append, take-append-drop, take_all, take_more, take_more_set}
+use Rattle.std.specs.Prelude.{Option, Some, None, IfNone, IfSome, option_to_list}
 use Rattle.core_types.specs.declared.types.OperandType.TheVariants.{Known, Unknown}
 use Rattle.core_types.specs.declared.types.OperandType.{OperandType}
 use Rattle.core_types.specs.declared.types.ValType.{ValType}
@@ -33,21 +33,16 @@ Takes-top unreachable height old new t e high = record {
 }
 
 -- A list is the part before its last element, and that element.
-split_last : (xs : List OperandType) (x : OperandType) (n : ℕ) → n + 1 ≡ length xs → x ≡ get_or xs n x → xs ≡ take n xs ++ x ∷ []
+pub split_last : {A : Type 0} (xs : List A) (x : A) (n : ℕ) → n + 1 ≡ length xs → x ≡ get_or xs n x → xs ≡ take n xs ++ x ∷ []
 split_last xs x n last is =
     let whole = sym (take_all (n + 1) xs (omega (arith, last))) in
-    whole ∙ take_more xs n x (omega (arith, last)) ∙ ap (λ (y : OperandType). take n xs ++ y ∷ []) (sym is)
+    whole ∙ take_more xs n x (omega (arith, last)) ∙ ap (λ y. take n xs ++ y ∷ []) (sym is)
 
 -- The topmost operand is replaced.
-pub set_last : (xs : List OperandType) (y : OperandType) (n : ℕ) → n + 1 ≡ length xs → set xs n y ≡ take n xs ++ y ∷ []
+pub set_last : {A : Type 0} (xs : List A) (y : A) (n : ℕ) → n + 1 ≡ length xs → set xs n y ≡ take n xs ++ y ∷ []
 set_last xs y n last =
     let whole = sym (take_all (n + 1) (set xs n y) (omega (arith, last, length-set xs n y))) in
     whole ∙ take_more_set xs n y (omega (arith, last))
-
--- The topmost operand is this one, and is popped.
-pub Takes-last : (unreachable : Bool) (height : ℕ) (old : List OperandType) (t : OperandType) (n : ℕ) → n + 1 ≡ length old → t ≡ get_or old n t
-    → height ≤ n → Takes unreachable height old (t ∷ []) (take n old)
-Takes-last unreachable height old t n last is high = Takes-top unreachable height old (take n old) t (split_last old t n last is) (omega (arith, last))
 
 pub Takes-nothing : (unreachable : Bool) (height : ℕ) (old : List OperandType) → Takes unreachable height old [] old
 Takes-nothing unreachable height old = record { at = λ under own parts long. (own, parts, inl (sym (append-nil own))) }
@@ -114,3 +109,50 @@ pub Takes-popped : (unreachable : Bool) (height : ℕ) (old new : List OperandTy
     → height < length old → IfSome answer (λ t. Takes unreachable height old (t ∷ []) new)
 Takes-popped unreachable height old new None e high = tt
 Takes-popped unreachable height old new (Some t) e high = Takes-top unreachable height old new t e high
+
+-- Lists of one length at the start of the same list are the same, and so is what follows them.
+same_start : (a b c d : List OperandType) → a ++ b ≡ c ++ d → length a ≡ length c → (a ≡ c) × (b ≡ d)
+same_start [] b [] d e long = (refl, e)
+same_start [] b (z ∷ c) d e long = absurd (omega (arith, long))
+same_start (x ∷ a) b [] d e long = absurd (omega (arith, long))
+same_start (x ∷ a) b (z ∷ c) d e long =
+    let tails : a ++ b ≡ c ++ d = cc in
+    let same : x ≡ z = cc in
+    let rest = same_start a b c d tails (omega (arith, long)) in
+    (ap (λ (w : OperandType). w ∷ a) same ∙ ap (λ (l : List OperandType). z ∷ l) rest.0, rest.1)
+
+-- The topmost operands are popped.
+pub Takes-many : (unreachable : Bool) (height : ℕ) (old new taken : List OperandType) → old ≡ new ++ taken → height ≤ length new → Takes unreachable height old taken new
+Takes-many unreachable height old new taken parts high = record {
+  at = λ under own halves long.
+      let below = take-append-drop height new in
+      let whole : under ++ own ≡ take height new ++ (drop height new ++ taken) =
+      sym halves ∙ parts ∙ ap (λ (z : List OperandType). z ++ taken) (sym below) ∙ append_assoc (take height new) (drop height new) taken in
+      let same = same_start under own (take height new) (drop height new ++ taken) whole (long ∙ sym (length-take-le height new high)) in
+      (drop height new, sym below ∙ ap (λ (z : List OperandType). z ++ drop height new) (sym same.0), inl same.1);
+}
+
+-- Unknown operands are popped where the frame has none.
+pub Takes-unknown : (height : ℕ) (old : List OperandType) (n : ℕ) → length old ≤ height → Takes true height old (replicate n Unknown) old
+Takes-unknown height old n low = record {
+  at = λ under own parts long.
+      let none : own ≡ [] = nil_from_length own (omega (arith, ap length parts, length-append under own, long, low)) in
+      (own, parts, inr (refl, none, (n, sym (ap (λ (z : List OperandType). replicate n Unknown ++ z) none ∙ append-nil (replicate n Unknown)))));
+}
+
+-- A pop leaves fewer operands.
+pub popped-less : (old new : List OperandType) (r : Option OperandType) → old ≡ new ++ option_to_list r → IfNone r (old ≡ []) → 0 < length old → length new < length old
+popped-less old new None parts none some = absurd (omega (arith, ap length none, some))
+popped-less old new (Some t) parts none some = omega (arith, ap length parts, length-append new (t ∷ []))
+
+-- The last of two such lists, and those before.
+pub AllFit-last : (given : List OperandType) (wanted : List ValType) (i : ℕ) (d : OperandType) (e : ValType) → i < length given → i < length wanted
+    → AllFit (take (i + 1) given) (known (take (i + 1) wanted)) → AllFit (take i given) (known (take i wanted)) × Fits (get_or given i d) (Known (get_or wanted i e))
+AllFit-last [] wanted i d e less below fits = absurd (omega (arith, less))
+AllFit-last (t ∷ given) [] i d e less below fits = absurd (omega (arith, below))
+AllFit-last (t ∷ given) (w ∷ wanted) zero d e less below fits = (tt, fits.0)
+AllFit-last (t ∷ given) (w ∷ wanted) (suc i) d e less below fits =
+    let count : suc i + 1 ≡ suc (i + 1) = omega arith in
+    let all : AllFit (t ∷ take (i + 1) given) (known (w ∷ take (i + 1) wanted)) = rw count at fits in
+    let (before, last) = AllFit-last given wanted i d e (omega (arith, less)) (omega (arith, below)) all.1 in
+    ((all.0, before), last)

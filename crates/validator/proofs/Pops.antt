@@ -1,5 +1,6 @@
 -- The results of pops.
-use Rattle.std.proofs.Common.{◌≡◌, Bool, true, false, List, [], ◌∷◌, ◌++◌, refl, sym, subst}
+use Rattle.std.proofs.Common.{◌≡◌, ◌&&◌, Bool, true, false, List, [], ◌∷◌, ◌++◌, refl, sym, subst}
+use Rattle.std.specs.Bool.{OnTrue}
 use Rattle.std.specs.Prelude.{IsTrue, ◌↔◌}
 use Rattle.std.proofs.lemmas.List.{map-append}
 use Rattle.core_types.specs.declared.types.OperandType.{OperandType}
@@ -8,9 +9,22 @@ use Rattle.core_types.specs.declared.types.ValType.{ValType}
 use Rattle.meaning.specs.validation.Instructions.{Fits, known}
 use Rattle.meaning.proofs.lemmas.Typing.{AllFit-joined}
 use Rattle.validator.specs.declared.control_frames.ControlFrame.{ControlFrame}
-use Rattle.validator.specs.Operands.{Pops, PopsOne, Refuses, TakesOff}
-use Rattle.validator.proofs.OperandStack.{Takes-under}
+use Rattle.validator.specs.Operands.{Pops, PopsOne, Refuses, Replaces, ReplacesTop, TakesOff}
+use Rattle.validator.proofs.OperandStack.{Takes-many, Takes-under}
 use Rattle.validator.proofs.completeness.Covers.{Refuses-misfit, Refuses-top, Refuses-under}
+
+-- Both of two tests are true.
+pub both : (a b : Bool) → IsTrue a → IsTrue b → IsTrue (a && b)
+both true b first second = second
+both false b first second = first
+
+pub first_of_both : (a b : Bool) → IsTrue (a && b) → IsTrue a
+first_of_both true b is = refl
+first_of_both false b is = is
+
+pub second_of_both : (a b : Bool) → IsTrue (a && b) → IsTrue b
+second_of_both true b is = is
+second_of_both false b is = let e : false ≡ true = is in absurd cc
 
 module _ (frame : ControlFrame) (old : List OperandType) where
   -- The topmost operand was taken, and tested whether it fits.
@@ -43,3 +57,9 @@ module _ (frame : ControlFrame) (old : List OperandType) where
   pub one_popped : (answer : Bool) (new : List OperandType) (wanted : ValType) → PopsOne frame old (Known wanted) new answer → Pops frame old (known (wanted ∷ [])) new answer
   one_popped true new wanted (t, takes, fit) = (t ∷ [], takes, (fit, tt))
   one_popped false new wanted refuses = refuses
+
+  -- The topmost operands were replaced.
+  pub replaced_top : (answer : Bool) (new : List OperandType) (wanted : List ValType) (given : ValType) → OnTrue answer (ReplacesTop frame.height old wanted given new)
+      → OnTrue answer (Replaces frame old wanted (given ∷ []) new)
+  replaced_top true new wanted given (rest, parts, high, is) = (rest, Takes-many frame.unreachable frame.height old rest (known wanted) parts high, is)
+  replaced_top false new wanted given nothing = tt

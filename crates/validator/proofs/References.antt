@@ -1,9 +1,11 @@
 -- Marks that are set in turn.
 use Rattle.std.proofs.Common.{◌≡◌, ℕ, zero, suc, ◌+◌, ◌<◌, Bool, List, [], ◌∷◌, ◌++◌, length, get_or, drop, replicate, refl, sym, ap, ◌∙◌, inl, inr, arith}
-use Rattle.std.proofs.lemmas.List.{drop_more}
+use Rattle.std.proofs.lemmas.List.{drop_more, length-replicate}
 use Rattle.std.specs.Prelude.{true, false, ◌⊎◌, Some, slice_get, slice_set}
 use Rattle.meaning.specs.validation.Instructions.{IsNamed}
-use Rattle.validator.specs.References.{set_marks}
+use Rattle.core_types.specs.declared.module.Module.{Module}
+use Rattle.meaning.specs.validation.Modules.{function_indices, named_functions}
+use Rattle.validator.specs.References.{HasMarks, set_marks}
 
 pub marked_append : (marks : List Bool) (xs ys : List ℕ) → set_marks marks (xs ++ ys) ≡ set_marks (set_marks marks xs) ys
 marked_append marks [] ys = refl
@@ -67,3 +69,13 @@ none_set (suc n) (suc x) h = none_set n x h
 
 pub named_if_marked : (n : ℕ) (xs : List ℕ) (x : ℕ) → slice_get (set_marks (replicate n false) xs) x ≡ Some true → IsNamed x xs
 named_if_marked n xs x h = elim (marked_only (replicate n false) xs x h) [ inl before ↦ absurd (none_set n x before) | inr named ↦ named ]
+
+-- The marks of the functions that a module names, set in turn.
+pub are_marks : (m : Module) (count : ℕ) (marks : List Bool) → count ≡ length (function_indices m) → marks ≡ set_marks (replicate count false) (named_functions m) → HasMarks m marks
+are_marks m count marks one_each set =
+    let none = replicate count false in
+    record {
+      one_for_each = ap length set ∙ length-set_marks none (named_functions m) ∙ length-replicate count false ∙ one_each;
+      named = λ x marked. named_if_marked count (named_functions m) x (rw set at marked);
+      set = λ x lt named. rw set (marked_all none (named_functions m) x (omega (arith, length-replicate count false, one_each)) named);
+    }

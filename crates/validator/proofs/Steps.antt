@@ -31,8 +31,8 @@ module _ {lent : BodyContext} {old new : Stacks} where
   -- The operands of its type are taken, and its results are pushed.
   pub type_steps : {given left : List OperandType} (o : PlainOp) (t : FuncType) → IsTypeOf lent (map label_of (control_stack old)) o t
       → new.innermost ≡ old.innermost → new.outer ≡ old.outer
-      → Takes old.innermost.unreachable old.innermost.height old.operands.items given left → AllFit given (known t.params)
-      → new.operands.items ≡ left ++ known t.results → StepsTo lent old new (Plain o)
+      → Takes old.innermost.unreachable old.innermost.height old.operands given left → AllFit given (known t.params)
+      → new.operands ≡ left ++ known t.results → StepsTo lent old new (Plain o)
   type_steps {given = given} o t type innermost outer takes fits operands = record {
     sound = rule_sound o (known t.params) (known t.results) innermost outer takes fits operands type.rule;
     complete = rule_complete o (known t.results) innermost outer takes operands
@@ -44,8 +44,8 @@ module _ {lent : BodyContext} {old new : Stacks} where
   -- The operands of a rule are taken, and nothing can be reached after it.
   pub stop_steps : {given left : List OperandType} (o : PlainOp) (wanted : List OperandType)
       → new.innermost ≡ unreachable_from_here old.innermost → new.outer ≡ old.outer
-      → Takes old.innermost.unreachable old.innermost.height old.operands.items given left → AllFit given wanted
-      → new.operands.items ≡ take old.innermost.height left
+      → Takes old.innermost.unreachable old.innermost.height old.operands given left → AllFit given wanted
+      → new.operands ≡ take old.innermost.height left
       → ((context : Context) → Describes lent context → (any to : List OperandType) → Rule (inside context (control_stack old)) o (any ++ wanted) to)
       → StepsTo lent old new (Plain o)
   stop_steps o wanted innermost outer takes fits operands rule = record {
@@ -56,13 +56,13 @@ module _ {lent : BodyContext} {old new : Stacks} where
 -- A block begins.
 pub begin_steps : {lent : BodyContext} {old new : Stacks} {given left : List OperandType} (frame : ControlFrame) (t : BlockType) (o : Op)
     → IsMark frame.kind t o → block_type lent.types.now t ≡ Some (signature_of frame)
-    → Takes old.innermost.unreachable old.innermost.height old.operands.items given left → AllFit given (hand_of frame)
+    → Takes old.innermost.unreachable old.innermost.height old.operands given left → AllFit given (hand_of frame)
     → frame.height ≡ length left → frame.unreachable ≡ false → new.innermost ≡ frame
-    → reverse new.outer.items ≡ old.innermost ∷ reverse old.outer.items → new.operands.items ≡ left ++ known frame.start_types.now → StepsTo lent old new o
+    → reverse new.outer.items ≡ old.innermost ∷ reverse old.outer.items → new.operands ≡ left ++ known frame.start_types.now → StepsTo lent old new o
 begin_steps {lent} {old} {new} {given} {left} frame t o mark type takes fits height alive innermost outer operands = record {
   sound = record {
     keeps = λ context described read opened.
-        IsTypingOfRead-parts context new.innermost frame (reverse new.outer.items) (old.innermost ∷ reverse old.outer.items) new.operands.items
+        IsTypingOfRead-parts context new.innermost frame (reverse new.outer.items) (old.innermost ∷ reverse old.outer.items) new.operands
         (left ++ known frame.start_types.now) (read ++ o ∷ []) innermost outer operands
         (start_open frame t o (took_open (hand_of frame) opened takes fits) height alive mark (ap (λ (types : List FuncType). block_type types t) described.types ∙ type));
   };

@@ -61,7 +61,7 @@ pub record IsTypingOfRest (context : Context) (l : ControlFrame) (ls : List Cont
 
 abbrev pub TypesRest : Context → Stacks → List Op → Type 0
 TypesRest context s ops =
-    IsTypingOfRest context s.innermost (reverse s.outer.items) s.operands.items ops
+    IsTypingOfRest context s.innermost (reverse s.outer.items) s.operands ops
 
 -- In each context that is described, and for any typing of the operations, the rest of them has a typing from the stacks.
 pub record IsRestTyped (s : BodyContext) (ops : List Op) (stacks : Stacks) (rest : List Op)

@@ -1,5 +1,5 @@
 -- Constant expressions, in the terms of the context that they borrow.
-use Rattle.std.specs.Prelude.{◌≡◌, ◌^◌, ◌<◌, ◌≤◌, ◌⊎◌, ℕ, suc, true, Some, slice_get, List, [], ◌∷◌}
+use Rattle.std.specs.Prelude.{Bool, ◌≡◌, ◌^◌, ◌<◌, ◌≤◌, ◌⊎◌, ℕ, suc, true, Some, slice_get, List, [], ◌∷◌}
 use Rattle.core_types.specs.declared.module.Module.{Module}
 use Rattle.core_types.specs.declared.op.BinaryOp.TheVariants.{Add, Sub, Mul}
 use Rattle.core_types.specs.declared.op.NumericOp.TheVariants.{Binary}
@@ -18,7 +18,6 @@ use Rattle.meaning.specs.validation.Instructions.{integer_type}
 use Rattle.meaning.specs.validation.Modules.{imported_globals}
 use Rattle.meaning.specs.validation.Types.{reference_type}
 use Rattle.validator.specs.declared.constants.ConstantContext.{ConstantContext}
-use Rattle.validator.specs.declared.context.IndexSpaces.{IndexSpaces}
 
 unfoldable pub GivesReference : ConstantContext → ReferenceOp → ValType → Type 0
 GivesReference context (reference.Null r) t = t ≡ reference_type r
@@ -32,10 +31,10 @@ GivesGlobal context (GlobalGet x) t =
 GivesGlobal context op t = ⊥
 
 -- The context borrows the types of the imported globals, and the marks of the functions.
-pub record IsConstantContext (m : Module) (s : IndexSpaces) (context : ConstantContext)
+pub record IsConstantContext (m : Module) (marks : List Bool) (context : ConstantContext)
     : Type 0 where
   pub globals : context.globals.now ≡ imported_globals m.imports
-  pub declared : context.declared.now ≡ s.declared.items
+  pub declared : context.declared.now ≡ marks
 
 -- The instruction is constant and gives a value of this type.
 unfoldable pub GivesConstant : ConstantContext → PlainOp → ValType → Type 0

@@ -30,7 +30,7 @@ segment_type_at lent x =
 
 -- `ref.func` may name the function.
 abbrev pub IsMarked : BodyContext → ℕ → Type 0
-IsMarked lent x = slice_get lent.spaces.now.declared.items x ≡ Some true
+IsMarked lent x = slice_get lent.declared.now x ≡ Some true
 
 -- The context has what the context in the code borrows, and no labels. `ref.func` may name the marked functions.
 pub record Describes (lent : BodyContext) (context : Context) : Type 0 where

@@ -57,7 +57,7 @@ pub record BeginsBody (s : Stacks) (results : List ValType) : Type 0 where
   pub height : s.innermost.height ≡ 0
   pub reachable : s.innermost.unreachable ≡ false
   pub outer : s.outer.items ≡ []
-  pub operands : s.operands.items ≡ []
+  pub operands : s.operands ≡ []
 
 -- The operation begins a body of this kind and block type.
 abbrev pub IsMark : FrameKind → BlockType → Op → Type 0
@@ -73,13 +73,13 @@ unreachable_from_here l = record l { unreachable = true }
 
 -- The innermost frame becomes unreachable, and loses its operands.
 pub record BecomesUnreachable (old new : Stacks) : Type 0 where
-  pub operands : new.operands.items ≡ take old.innermost.height old.operands.items
+  pub operands : new.operands ≡ take old.innermost.height old.operands
   pub innermost : new.innermost ≡ unreachable_from_here old.innermost
   pub outer : new.outer ≡ old.outer
 
 -- The frame and the operands at its start are pushed.
 pub record PushesFrame (old : Stacks) (frame : ControlFrame) (new : Stacks) : Type 0 where
-  pub operands : new.operands.items ≡ old.operands.items ++ known frame.start_types.now
+  pub operands : new.operands ≡ old.operands ++ known frame.start_types.now
   pub innermost : new.innermost ≡ frame
   pub outer : new.outer.items ≡ old.outer.items ++ old.innermost ∷ []
 

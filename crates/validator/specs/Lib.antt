@@ -3,10 +3,10 @@ pub mod Constants
 pub mod Contexts
 pub mod ControlFrames
 pub mod Errors
-pub mod IndexSpaces
 pub mod InstructionTypes
 pub mod ModuleParts
 pub mod Modules
+pub mod OperandStack
 pub mod Operands
 pub mod References
 pub mod Soundness

@@ -17,7 +17,7 @@ use Rattle.core_types.specs.declared.types.TableType.{TableType}
 use Rattle.core_types.specs.declared.types.ValType.TheVariants.{I32}
 use Rattle.meaning.specs.validation.Types.{reference_type}
 use Rattle.validator.specs.declared.constants.ConstantContext.{ConstantContext}
-use Rattle.validator.specs.declared.context.IndexSpaces.{IndexSpaces}
+use Rattle.index_spaces.specs.declared.IndexSpaces.{IndexSpaces}
 use Rattle.validator.specs.Constants.{IsConstantIn}
 
 abbrev pub ExistsIn : IndexSpaces → ExportDesc → Type 0

@@ -1,5 +1,5 @@
 -- How operands are taken from those of a control frame.
-use Rattle.std.specs.Prelude.{◌≡◌, ℕ, Bool, true, List, [], ◌∷◌, ◌++◌, replicate, ◌⊎◌, length, ◌≤◌, false}
+use Rattle.std.specs.Prelude.{◌≡◌, ℕ, Bool, true, List, [], ◌∷◌, ◌++◌, replicate, ◌⊎◌, length, ◌≤◌, ◌<◌, ◌-◌, take, drop, false}
 use Rattle.core_types.specs.declared.types.OperandType.TheVariants.{Known, Unknown}
 use Rattle.core_types.specs.declared.types.OperandType.{OperandType}
 use Rattle.core_types.specs.declared.types.ValType.{ValType}
@@ -78,7 +78,7 @@ Replaces frame old wanted results new =
 -- The result of a pop from the stacks, whose frames stay.
 abbrev pub PopsFrom : Stacks → List OperandType → Stacks → Bool → Type 0
 PopsFrom old wanted new answer =
-    Pops old.innermost old.operands.items wanted new.operands.items answer
+    Pops old.innermost old.operands wanted new.operands answer
 
 pub record SameFrames (old new : Stacks) : Type 0 where
   pub innermost : new.innermost ≡ old.innermost
@@ -91,3 +91,15 @@ FitsReference t wanted = Fits t (Known (reference_type wanted))
 -- Two operands fit one numeric type, or the unknown type.
 abbrev pub AreBothNumeric : OperandType → OperandType → OperandType → Type 0
 AreBothNumeric first second t = IsNumeric t × Fits first t × Fits second t
+
+-- Operands of these types, which were on top and above a height, are replaced.
+abbrev pub ReplacesTop : (height : ℕ) → List OperandType → List ValType → ValType → List OperandType
+    → Type 0
+ReplacesTop height old wanted given new = (rest : List OperandType) × (old ≡ rest ++ known wanted)
+    × (height ≤ length rest) × (new ≡ rest ++ Known given ∷ [])
+
+-- Operands are taken that fit the types from a place on, up to another one.
+abbrev pub PopsPart : ControlFrame → List OperandType → List ValType → (left next : ℕ) → List OperandType
+    → Type 0
+PopsPart frame old wanted left next new = (next < left) × ((given : List OperandType)
+    × TakesOff frame old given new × AllFit given (known (take (left - next) (drop next wanted))))

@@ -81,7 +81,7 @@ pub record IsTypingOfRead (context : Context) (l : ControlFrame) (ls : List Cont
 -- The same for the stacks, with nothing in hand.
 abbrev pub TypesRead : Context → Stacks → List Op → Type 0
 TypesRead context s read =
-    IsTypingOfRead context s.innermost (reverse s.outer.items) s.operands.items [] read
+    IsTypingOfRead context s.innermost (reverse s.outer.items) s.operands [] read
 
 -- In each context that is described, the stacks type these operations.
 pub record IsReadTyped (s : BodyContext) (stacks : Stacks) (read : List Op) : Type 0 where

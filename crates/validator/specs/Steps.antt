@@ -27,18 +27,18 @@ use Rattle.validator.specs.Soundness.{TypesRead}
 -- No typing has operands for an instruction of this type.
 abbrev pub RefusesType : Stacks → FuncType → Type 0
 RefusesType old t =
-    Refuses old.innermost.unreachable old.innermost.height old.operands.items (known t.params)
+    Refuses old.innermost.unreachable old.innermost.height old.operands (known t.params)
 
 -- What was read in the innermost frame is whole: its end types can be taken, and no operand is left.
 pub record Closes (old : Stacks) (new : List OperandType) : Type 0 where
   pub given : List OperandType
-  pub takes : Takes old.innermost.unreachable old.innermost.height old.operands.items given new
+  pub takes : Takes old.innermost.unreachable old.innermost.height old.operands given new
   pub fits : AllFit given (known old.innermost.end_types.now)
   pub dry : length new ≡ old.innermost.height
 
 -- No typing has exactly the end types of the innermost frame.
 pub record NeverCloses (old : Stacks) : Type 0 where
-  pub at : (under own theirs : List OperandType) → old.operands.items ≡ under ++ own
+  pub at : (under own theirs : List OperandType) → old.operands ≡ under ++ own
       → length under ≡ old.innermost.height → Covers old.innermost.unreachable own theirs
       → AllFit theirs (known old.innermost.end_types.now) → ⊥
 

@@ -1,4 +1,3 @@
-pub mod index_spaces;
 pub mod references;
 
 ghost use Rattle.std.specs.Prelude.{IsTrue, option_map, slice_get, ◌<◌, ◌↔◌, ◌≡◌};
@@ -6,36 +5,10 @@ ghost use Rattle.validator.specs.Contexts.{IsMarked, function_types, local_types
 ghost use Rattle.validator.specs.InstructionTypes.{lent_func_type};
 
 use crate::types::{LentFuncType, lend};
-use core_types::{
-    ElementSegment, Export, FuncType, Global, GlobalType, Import, Limits, Locals, RefType,
-    TableType, ValType, item,
-};
+use core_types::{ElementSegment, FuncType, GlobalType, Limits, Locals, RefType, ValType, item};
+use index_spaces::IndexSpaces;
 
-/// The index spaces of a module, imports first, and which functions `ref.func` may name in a body
-/// (Validation, Conventions, Contexts).
-#[derive(Drop)]
-pub struct IndexSpaces {
-    /// The type index of each function.
-    pub functions: Vec<u32>,
-    pub tables: Vec<TableType>,
-    pub memories: Vec<Limits>,
-    pub globals: Vec<GlobalType>,
-    /// Whether a function is named outside of bodies and the start.
-    pub declared: Vec<bool>,
-}
-
-/// The parts of a module that its index spaces come from, besides its functions.
-#[derive(Clone, Copy)]
-pub struct ModuleParts<'a> {
-    pub imports: &'a [Import],
-    pub tables: &'a [TableType],
-    pub memories: &'a [Limits],
-    pub globals: &'a [Global],
-    pub exports: &'a [Export],
-    pub elements: &'a [ElementSegment],
-}
-
-/// What the body of a function is typed in.
+/// What the body of a function is typed in (Validation, Conventions, Contexts).
 #[derive(Clone, Copy)]
 pub struct BodyContext<'a> {
     pub types: &'a [FuncType],
@@ -44,6 +17,8 @@ pub struct BodyContext<'a> {
     /// The number of data segments.
     pub datas: usize,
     pub spaces: &'a IndexSpaces,
+    /// For each function, whether `ref.func` may name it.
+    pub declared: &'a [bool],
     pub params: &'a [ValType],
     pub locals: &'a Locals,
     pub results: &'a [ValType],
@@ -100,7 +75,7 @@ pub fn memory_type(context: &BodyContext<'_>) -> Option<Limits>
 pub fn is_declared(context: &BodyContext<'_>, index: u32) -> bool
     ensures { IsTrue result ↔ IsMarked context.now index }
 {
-    match item(&context.spaces.declared, index) {
+    match item(context.declared, index) {
         Some(declared) => *declared,
         None => false,
     }

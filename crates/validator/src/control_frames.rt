@@ -1,7 +1,8 @@
 ghost use Rattle.std.specs.Prelude.{IfNone, IfSome, None, Some, [], ◌≡◌};
 ghost use Rattle.validator.specs.ControlFrames.{BecomesUnreachable, BeginsBody, IsLabelAt, label_of};
 
-use core_types::{OperandType, ValType};
+use crate::operand_stack::OperandStack;
+use core_types::ValType;
 use std::alloc::Global;
 
 /// The instruction or function that the body of a control frame belongs to.
@@ -28,7 +29,7 @@ pub struct ControlFrame<'a> {
 /// The operand stack and the control stack. The control stack has a frame for each body that has begun and not ended.
 #[derive(Drop)]
 pub struct Stacks<'a> {
-    pub operands: Vec<OperandType>,
+    pub operands: OperandStack<'a>,
     /// The innermost frame.
     pub innermost: ControlFrame<'a>,
     /// The frames around it, the innermost last.
@@ -41,7 +42,7 @@ impl<'a> Stacks<'a> {
         ensures { BeginsBody result [] }
     {
         Stacks {
-            operands: Vec::new(alloc),
+            operands: OperandStack::new(alloc),
             innermost: ControlFrame {
                 kind: FrameKind::Function,
                 start_types: &[],

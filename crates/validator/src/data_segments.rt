@@ -3,8 +3,8 @@ ghost use Rattle.core_types.specs.declared.module.DataSegment.{DataSegment as Da
 ghost use Rattle.validator.specs.ModuleParts.{IsDataModeIn};
 
 use crate::constants::{ConstantContext, is_constant};
-use crate::context::IndexSpaces;
 use core_types::{DataMode, DataSegment, ValType};
+use index_spaces::IndexSpaces;
 
 // Returns whether a data segment is passive, or is for a memory that exists, at a constant offset (Validation, Data Segments).
 #[tactic(auto, unfolding(crate::specs::ModuleParts::IsDataModeIn))]

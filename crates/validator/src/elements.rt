@@ -2,9 +2,9 @@ ghost use Rattle.std.specs.Prelude.{All, IsTrue, ◌<◌, ◌↔◌};
 ghost use Rattle.validator.specs.ModuleParts.{AreItemsIn, IsElementIn, IsElementModeIn};
 
 use crate::constants::{ConstantContext, is_constant};
-use crate::context::IndexSpaces;
 use crate::types::reference_type;
 use core_types::{ElementItems, ElementMode, ElementSegment, RefType, ValType};
+use index_spaces::IndexSpaces;
 
 // Returns whether the references of a segment are of its type, each a function that exists or a constant.
 #[tactic(auto, unfolding(crate::specs::ModuleParts::AreItemsIn))]

@@ -2,8 +2,8 @@ ghost use Rattle.std.specs.Prelude.{All, IsTrue, ◌↔◌};
 ghost use Rattle.core_types.specs.declared.module.Export.{Export as Exported};
 ghost use Rattle.validator.specs.ModuleParts.{ExistsIn};
 
-use crate::context::IndexSpaces;
 use core_types::{Export, ExportDesc};
+use index_spaces::IndexSpaces;
 
 // Returns whether an export refers to something that exists (Validation, Exports).
 fn exists(spaces: &IndexSpaces, desc: ExportDesc) -> bool

@@ -1,21 +1,22 @@
 ghost use Rattle.std.specs.Prelude.{All, IfErr, IsTrue, OnOk, ℕ, ◌<◌, ◌↔◌, ◌≡◌, ◌≢◌, ◌⊎◌};
 ghost use Rattle.core_types.specs.declared.module.Func.{Func as Function};
+ghost use Rattle.index_spaces.specs.IndexSpaces.{AreIndexSpaces};
 ghost use Rattle.meaning.specs.validation.Modules.{IsValidFunction};
 ghost use Rattle.validator.specs.Completeness.{IsUntyped};
 ghost use Rattle.validator.specs.Errors.{OnInvalid};
-ghost use Rattle.validator.specs.IndexSpaces.{AreIndexSpaces};
 ghost use Rattle.validator.specs.References.{HasMarks};
 ghost use Rattle.validator.specs.Soundness.{IsTyped};
 ghost use Rattle.validator.specs.declared.errors.Place.TheVariants.{Section};
 ghost use Rattle.validator.specs.declared.errors.ValidateError.TheVariants.{Invalid, OutOfMemory};
 ghost use Rattle.validator.specs.Modules.{HasValidBodies};
 
-use crate::context::{BodyContext, IndexSpaces};
+use crate::context::BodyContext;
 use crate::control_frames::{Stacks, begin_body};
 use crate::errors::{Fault, Place, ValidateError};
 use crate::instructions::control::blocks::finish;
 use crate::instructions::step;
 use core_types::{Expression, Func, Module, item};
+use index_spaces::IndexSpaces;
 use std::alloc::Global;
 
 // Returns whether the type of each function exists, in a module with this number of types (Validation, Functions).
@@ -51,11 +52,12 @@ fn validate_function<'a>(
     alloc: Global,
     decoded: &'a Module,
     spaces: &'a IndexSpaces,
+    declared: &'a [bool],
     stacks: &mut Stacks<'a>,
     func: &'a Func,
 ) -> Result<(), Fault>
     requires spaces { AreIndexSpaces decoded.now spaces.now }
-    requires marks { HasMarks decoded.now spaces.now }
+    requires marks { HasMarks decoded.now declared.now }
     ensures valid { OnOk result (IsValidFunction decoded.now func.now) }
     ensures invalid { IfErr result (OnInvalid (¬ IsValidFunction decoded.now func.now)) }
 {
@@ -68,6 +70,7 @@ fn validate_function<'a>(
         elements: decoded.elements.as_slice(),
         datas: decoded.datas.len(),
         spaces,
+        declared,
         params: ty.params.as_slice(),
         locals: &func.locals,
         results: ty.results.as_slice(),
@@ -79,9 +82,10 @@ pub fn validate_functions(
     alloc: Global,
     decoded: &Module,
     spaces: &IndexSpaces,
+    declared: &[bool],
 ) -> Result<(), ValidateError>
     requires spaces { AreIndexSpaces decoded.now spaces.now }
-    requires marks { HasMarks decoded.now spaces.now }
+    requires marks { HasMarks decoded.now declared.now }
     ensures valid { OnOk result (HasValidBodies decoded.now) }
     ensures invalid { IfErr result
         (λ error. (error ≡ OutOfMemory) ⊎ (¬ HasValidBodies decoded.now)) }
@@ -89,7 +93,7 @@ pub fn validate_functions(
 {
     let mut stacks = Stacks::new(alloc);
     for (index, func) in decoded.funcs.as_slice().iter().enumerate() {
-        match validate_function(alloc, decoded, spaces, &mut stacks, func) {
+        match validate_function(alloc, decoded, spaces, declared, &mut stacks, func) {
             Ok(()) => {}
             Err(Fault::Invalid) => return Err(ValidateError::Invalid(Place::Func(index))),
             Err(Fault::OutOfMemory) => return Err(ValidateError::OutOfMemory),

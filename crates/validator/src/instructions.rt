@@ -29,9 +29,7 @@ use crate::instructions::parametric::{step_parametric, step_typed_select};
 use crate::instructions::reference::step_reference;
 use crate::instructions::table::step_table;
 use crate::instructions::variable::step_variable;
-use crate::operands::{
-    pop_fitting, pop_one, pop_two, pop_types, push_types, replace_one, replace_two,
-};
+use crate::operands::{pop_fitting, pop_one, pop_two, pop_types, replace_one, replace_two};
 use crate::types::InstructionType;
 use core_types::{
     ControlOp, Expression, LoadOp, Mark, MemoryOp, Op, OpWith, OperandType, PlainOp, ReferenceOp,
@@ -69,13 +67,13 @@ pub fn pop_operands(stacks: &mut Stacks<'_>, ty: &InstructionType<'_>) -> bool
 
 // Steps over an instruction of this type.
 #[inline(always)]
-pub fn apply(stacks: &mut Stacks<'_>, ty: &InstructionType<'_>) -> Result<(), Fault>
+pub fn apply<'a>(stacks: &mut Stacks<'a>, ty: &InstructionType<'a>) -> Result<(), Fault>
     ensures { StepsByType stacks.old stacks.new (lent_type ty.now) result }
 {
     if !pop_operands(stacks, ty) {
         return Err(Fault::Invalid);
     }
-    push_types(&mut stacks.operands, ty.results)?;
+    stacks.operands.push_types(ty.results)?;
     Ok(())
 }
 
@@ -136,7 +134,10 @@ pub fn apply_binary(stacks: &mut Stacks<'_>, takes: ValType, gives: ValType) -> 
 
 // Steps over an instruction whose type was looked up.
 #[inline(always)]
-pub fn apply_some(stacks: &mut Stacks<'_>, found: &Option<InstructionType<'_>>) -> Result<(), Fault>
+pub fn apply_some<'a>(
+    stacks: &mut Stacks<'a>,
+    found: &Option<InstructionType<'a>>,
+) -> Result<(), Fault>
     ensures { StepsByFound stacks.old stacks.new found.now result }
 {
     match found {

@@ -14,6 +14,7 @@ mod imports;
 mod instructions;
 mod memories;
 mod modules;
+mod operand_stack;
 mod operands;
 mod start;
 mod tables;

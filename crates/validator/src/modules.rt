@@ -1,16 +1,15 @@
 ghost use Rattle.std.specs.Prelude.{IfErr, IfOk, IsTrue, OnErr, OnOk, false, ◌≡◌, ◌⊎◌};
+ghost use Rattle.index_spaces.specs.IndexSpaces.{AreIndexSpaces};
 ghost use Rattle.meaning.specs.validation.Modules.{IsValid};
 ghost use Rattle.export_names.specs.Order.{IsNameOrder};
 ghost use Rattle.validator.specs.Constants.{IsConstantContext};
-ghost use Rattle.validator.specs.IndexSpaces.{AreIndexSpaces};
 ghost use Rattle.validator.specs.Modules.{HasValidDeclarations, HasValidParts};
 ghost use Rattle.validator.specs.References.{HasMarks};
 ghost use Rattle.validator.specs.declared.errors.Place.TheVariants.{Section};
 ghost use Rattle.validator.specs.declared.errors.ValidateError.TheVariants.{Invalid, OutOfMemory};
 
 use crate::constants::ConstantContext;
-use crate::context::IndexSpaces;
-use crate::context::index_spaces::module_spaces;
+use crate::context::references::mark_references;
 use crate::data_segments::are_valid_datas;
 use crate::elements::are_valid_elements;
 use crate::errors::{Place, ValidateError};
@@ -24,6 +23,7 @@ use crate::tables::are_valid_tables;
 use crate::valid_module::ValidModule;
 use core_types::Module;
 use export_names::NameOrder;
+use index_spaces::IndexSpaces;
 use std::alloc::Global;
 
 // Refuses the section of this id, unless its rule holds.
@@ -50,14 +50,18 @@ fn validate_declarations(decoded: &Module) -> Result<(), ValidateError>
     require(are_valid_memories(decoded.memories.as_slice()), 5)
 }
 
-fn constant_context<'a>(decoded: &Module, spaces: &'a IndexSpaces) -> ConstantContext<'a>
+fn constant_context<'a>(
+    decoded: &Module,
+    spaces: &'a IndexSpaces,
+    declared: &'a [bool],
+) -> ConstantContext<'a>
     requires { AreIndexSpaces decoded.now spaces.now }
-    ensures { IsConstantContext decoded.now spaces.now result }
+    ensures { IsConstantContext decoded.now declared.now result }
 {
     let imported = spaces.globals.len() - decoded.globals.len();
     ConstantContext {
         globals: &spaces.globals[..imported],
-        declared: &spaces.declared,
+        declared,
     }
 }
 
@@ -65,17 +69,18 @@ fn constant_context<'a>(decoded: &Module, spaces: &'a IndexSpaces) -> ConstantCo
 fn validate_parts(
     decoded: &Module,
     spaces: &IndexSpaces,
+    declared: &[bool],
     names: &NameOrder,
 ) -> Result<(), ValidateError>
     requires spaces { AreIndexSpaces decoded.now spaces.now }
     requires names { IsNameOrder decoded.now.exports names.now }
-    requires marks { HasMarks decoded.now spaces.now }
+    requires marks { HasMarks decoded.now declared.now }
     requires declarations { HasValidDeclarations decoded.now }
     ensures valid { OnOk result (HasValidParts decoded.now) }
     ensures invalid { OnErr result (¬ HasValidParts decoded.now) }
 {
     let exports = decoded.exports.as_slice();
-    let context = constant_context(decoded, spaces);
+    let context = constant_context(decoded, spaces, declared);
     require(is_at_most_one(&spaces.memories), 5)?;
     require(are_valid_globals(&context, decoded.globals.as_slice()), 6)?;
     require(all_exist(spaces, exports), 7)?;
@@ -101,9 +106,10 @@ fn validate_module(alloc: Global, decoded: &Module, names: &NameOrder) -> Result
     ensures invalid { IfErr result (λ error. (error ≡ OutOfMemory) ⊎ (¬ IsValid decoded.now)) }
 {
     validate_declarations(decoded)?;
-    let spaces = module_spaces(alloc, decoded)?;
-    validate_parts(decoded, &spaces, names)?;
-    validate_functions(alloc, decoded, &spaces)
+    let spaces = IndexSpaces::new(alloc, decoded)?;
+    let declared = mark_references(alloc, decoded, spaces.functions.len())?;
+    validate_parts(decoded, &spaces, &declared, names)?;
+    validate_functions(alloc, decoded, &spaces, &declared)
 }
 
 /// Checks a module in one pass over its operations, without recursion (Validation, Modules).

@@ -1,8 +1,8 @@
 ghost use Rattle.std.specs.Prelude.{IsTrue, Some, [], ◌↔◌, ◌≡◌};
 ghost use Rattle.validator.specs.ModuleParts.{IsEmptyTypeAt, IsStartIn};
 
-use crate::context::IndexSpaces;
 use core_types::{FuncType, item};
+use index_spaces::IndexSpaces;
 
 // Returns whether a function of this type takes and gives nothing.
 fn is_empty(ty: &FuncType) -> bool

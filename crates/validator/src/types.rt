@@ -159,3 +159,17 @@ pub fn are_ordered(limits: Limits) -> bool
         None => true,
     }
 }
+
+// Returns whether two lists are equal. Each pair of types is compared, so that the loop compares several at once.
+pub fn are_equal(first: &[ValType], second: &[ValType]) -> bool
+    ensures { IsTrue result ↔ (first.now ≡ second.now) }
+{
+    if first.len() != second.len() {
+        return false;
+    }
+    let mut equal = true;
+    for i in 0..first.len() {
+        equal &= first[i] == second[i];
+    }
+    equal
+}

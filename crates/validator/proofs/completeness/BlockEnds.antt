@@ -89,17 +89,17 @@ left_taken {l} {given = given} {new = new} {under = under} {theirs = theirs} tak
     below ∙ ap (λ (z : List OperandType). under ++ z) (nothing_under rest covers.others covers.top covers.parts covers.fits) ∙ append-nil under
 
 module _ {old : Stacks} where
-  never_closes : ((under theirs : List OperandType) → Left old.innermost old.operands.items under theirs → ⊥) → NeverCloses old
+  never_closes : ((under theirs : List OperandType) → Left old.innermost old.operands under theirs → ⊥) → NeverCloses old
   never_closes bar = record { at = λ under own theirs whole height covers fits. bar under theirs (record { own = own; whole = whole; height = height; covers = covers; fits = fits }) }
 
-  never_left : {under theirs : List OperandType} → NeverCloses old → Left old.innermost old.operands.items under theirs → ⊥
+  never_left : {under theirs : List OperandType} → NeverCloses old → Left old.innermost old.operands under theirs → ⊥
   never_left {under = under} {theirs = theirs} never left = never.at under left.own theirs left.whole left.height left.covers left.fits
 
-  pub NeverCloses-refused : Refuses old.innermost.unreachable old.innermost.height old.operands.items (known old.innermost.end_types.now) → NeverCloses old
+  pub NeverCloses-refused : Refuses old.innermost.unreachable old.innermost.height old.operands (known old.innermost.end_types.now) → NeverCloses old
   NeverCloses-refused refuses = never_closes (λ under theirs left. left_refused {l = old.innermost} refuses left)
 
   -- The end types were taken, and operands of the frame are left.
-  pub NeverCloses-over : {given new : List OperandType} → Takes old.innermost.unreachable old.innermost.height old.operands.items given new
+  pub NeverCloses-over : {given new : List OperandType} → Takes old.innermost.unreachable old.innermost.height old.operands given new
       → AllFit given (known old.innermost.end_types.now) → (length new ≡ old.innermost.height → ⊥) → NeverCloses old
   NeverCloses-over takes fits over = never_closes (λ under theirs left. over (ap length (left_taken {l = old.innermost} takes fits left) ∙ left.height))
 
@@ -249,7 +249,7 @@ module _ {s : BodyContext} {old : Stacks} where
   pub end_outside_refused : old.outer.items ≡ [] → CannotBeNext s old op.End
   end_outside_refused none = record {
     at = λ context is ops p.
-        end_outside (subst (λ (z : List ControlFrame). IsTypingOfRest context old.innermost z old.operands.items (op.End ∷ ops))
+        end_outside (subst (λ (z : List ControlFrame). IsTypingOfRest context old.innermost z old.operands (op.End ∷ ops))
         (ap (λ (z : List ControlFrame). reverse z) none) p);
   }
 
@@ -261,19 +261,19 @@ module _ {s : BodyContext} {old : Stacks} where
 
 module _ {s : BodyContext} {old new : Stacks} {given left : List OperandType} where
   pub end_complete : (around : ControlFrame) (outer : List ControlFrame) → reverse old.outer.items ≡ around ∷ reverse outer
-      → Takes old.innermost.unreachable old.innermost.height old.operands.items given left → AllFit given (known old.innermost.end_types.now)
-      → new.innermost ≡ around → new.outer.items ≡ outer → new.operands.items ≡ left ++ known old.innermost.end_types.now → KeepsRest s old new op.End
+      → Takes old.innermost.unreachable old.innermost.height old.operands given left → AllFit given (known old.innermost.end_types.now)
+      → new.innermost ≡ around → new.outer.items ≡ outer → new.operands ≡ left ++ known old.innermost.end_types.now → KeepsRest s old new op.End
   end_complete around outer split takes fits innermost below operands = record {
     on = λ context is ops p.
-        IsTypingOfRest-parts context new.innermost around (reverse new.outer.items) (reverse outer) new.operands.items
+        IsTypingOfRest-parts context new.innermost around (reverse new.outer.items) (reverse outer) new.operands
         (left ++ known old.innermost.end_types.now) ops innermost (ap (λ (z : List ControlFrame). reverse z) below) operands
-        (end_goes takes fits (subst (λ (z : List ControlFrame). IsTypingOfRest context old.innermost z old.operands.items (op.End ∷ ops)) split p));
+        (end_goes takes fits (subst (λ (z : List ControlFrame). IsTypingOfRest context old.innermost z old.operands (op.End ∷ ops)) split p));
   }
 
-  pub else_complete : Takes old.innermost.unreachable old.innermost.height old.operands.items given left → AllFit given (known old.innermost.end_types.now)
-      → new.innermost ≡ otherwise old.innermost → new.outer.items ≡ old.outer.items → new.operands.items ≡ left ++ known old.innermost.start_types.now → KeepsRest s old new op.Else
+  pub else_complete : Takes old.innermost.unreachable old.innermost.height old.operands given left → AllFit given (known old.innermost.end_types.now)
+      → new.innermost ≡ otherwise old.innermost → new.outer.items ≡ old.outer.items → new.operands ≡ left ++ known old.innermost.start_types.now → KeepsRest s old new op.Else
   else_complete takes fits innermost outer operands = record {
     on = λ context is ops p.
-        IsTypingOfRest-parts context new.innermost (otherwise old.innermost) (reverse new.outer.items) (reverse old.outer.items) new.operands.items
+        IsTypingOfRest-parts context new.innermost (otherwise old.innermost) (reverse new.outer.items) (reverse old.outer.items) new.operands
         (left ++ known old.innermost.start_types.now) ops innermost (ap (λ (z : List ControlFrame). reverse z) outer) operands (else_goes takes fits p);
   }

@@ -221,7 +221,7 @@ module _ {lent : BodyContext} {old : Stacks} (kind : FrameKind) (t : BlockType) 
   }
 
   pub begin_refused_next : (found : FuncType) (wanted : List ValType) → block_type lent.types.now t ≡ Some found → wanted ≡ found.params ++ condition_by kind
-      → Refuses old.innermost.unreachable old.innermost.height old.operands.items (known wanted) → CannotBeNext lent old o
+      → Refuses old.innermost.unreachable old.innermost.height old.operands (known wanted) → CannotBeNext lent old o
   begin_refused_next found wanted type same refuses = record {
     at = λ context described ops p.
         let b = block_start kind t o mark p in
@@ -231,13 +231,13 @@ module _ {lent : BodyContext} {old : Stacks} (kind : FrameKind) (t : BlockType) 
 
 pub begin_complete : {lent : BodyContext} {old new : Stacks} {given left : List OperandType} (frame : ControlFrame) (t : BlockType) (o : Op)
     → IsMark frame.kind t o → block_type lent.types.now t ≡ Some (signature_of frame)
-    → Takes old.innermost.unreachable old.innermost.height old.operands.items given left
+    → Takes old.innermost.unreachable old.innermost.height old.operands given left
     → AllFit given (known (frame.start_types.now ++ condition_by frame.kind)) → frame.height ≡ length left → new.innermost ≡ frame
-    → reverse new.outer.items ≡ old.innermost ∷ reverse old.outer.items → new.operands.items ≡ left ++ known frame.start_types.now → KeepsRest lent old new o
+    → reverse new.outer.items ≡ old.innermost ∷ reverse old.outer.items → new.operands ≡ left ++ known frame.start_types.now → KeepsRest lent old new o
 begin_complete {old = old} {new} {left = left} frame t o mark type takes fits height innermost outer operands = record {
   on = λ context described ops p.
       let b = block_start frame.kind t o mark p in
-      IsTypingOfRest-parts context new.innermost frame (reverse new.outer.items) (old.innermost ∷ reverse old.outer.items) new.operands.items
+      IsTypingOfRest-parts context new.innermost frame (reverse new.outer.items) (old.innermost ∷ reverse old.outer.items) new.operands
       (left ++ known frame.start_types.now) ops innermost outer operands
       (begin_goes frame t o mark takes fits height p (block_same t (signature_of frame) b.s described type b.is));
 }

@@ -42,7 +42,7 @@ cut (suc n) (t ∷ ts) le =
     let (front, back, parts, long) = cut n ts (omega arith) in
     (t ∷ front, back, ap (λ (z : List OperandType). t ∷ z) parts, ap suc long)
 
-unknown_fit : (n : ℕ) (us : List OperandType) → length us ≡ n → AllFit (replicate n Unknown) us
+pub unknown_fit : (n : ℕ) (us : List OperandType) → length us ≡ n → AllFit (replicate n Unknown) us
 unknown_fit zero [] e = tt
 unknown_fit zero (u ∷ us) e = absurd (omega arith)
 unknown_fit (suc n) [] e = absurd (omega arith)
@@ -153,3 +153,36 @@ Refuses-under unreachable height old mid wanted t topmost takes refuses = record
       let covered = Covers-taken unreachable own (t ∷ []) rest theirs (below ++ front) back covers taken whole (AllFit-length back (topmost ∷ []) fit_back) in
       refuses.at under rest left long (below ++ front) below front covered.0 refl fit_front;
 }
+
+-- The last of the wanted operands are refused.
+pub Refuses-front : (unreachable : Bool) (height : ℕ) (old front back : List OperandType)
+    → Refuses unreachable height old back → Refuses unreachable height old (front ++ back)
+Refuses-front unreachable height old front back refuses = record {
+  at = λ under own parts long theirs below top covers e fit.
+      let (first, last, halves, fit_first, fit_last) = AllFit-parts top front back fit in
+      let whole : theirs ≡ (below ++ first) ++ last = e ∙ ap (λ (z : List OperandType). below ++ z) halves ∙ sym (append_assoc below first last) in
+      refuses.at under own parts long theirs (below ++ first) last covers whole fit_last;
+}
+
+-- Operands are refused below others that were taken.
+pub Refuses-below : (unreachable : Bool) (height : ℕ) (old given mid front back : List OperandType)
+    → Takes unreachable height old given mid → AllFit given back → Refuses unreachable height mid front
+    → Refuses unreachable height old (front ++ back)
+Refuses-below unreachable height old given mid front back takes fits refuses = record {
+  at = λ under own parts long theirs below top covers e fit.
+      let (first, last, halves, fit_first, fit_last) = AllFit-parts top front back fit in
+      let (rest, left, taken) = takes.at under own parts long in
+      let whole : theirs ≡ (below ++ first) ++ last = e ∙ ap (λ (z : List OperandType). below ++ z) halves ∙ sym (append_assoc below first last) in
+      let covered = Covers-taken unreachable own given rest theirs (below ++ first) last covers taken whole (AllFit-length last back fit_last ∙ sym (AllFit-length given back fits)) in
+      refuses.at under rest left long (below ++ first) below first covered.0 refl fit_first;
+}
+
+-- Known operands fit only the same types.
+pub known_fit : (xs ys : List ValType) → AllFit (known xs) (known ys) → xs ≡ ys
+known_fit [] [] fits = refl
+known_fit [] (y ∷ ys) fits = absurd fits
+known_fit (x ∷ xs) [] fits = absurd fits
+known_fit (x ∷ xs) (y ∷ ys) fits =
+    let same : Known y ≡ Known x = fits.0 in
+    let types : x ≡ y = cc in
+    ap (λ (z : ValType). z ∷ xs) types ∙ ap (λ (z : List ValType). y ∷ z) (known_fit xs ys fits.1)

@@ -11,9 +11,9 @@ use Rattle.core_types.specs.declared.module.Module.{Module}
 use Rattle.core_types.specs.declared.types.TableType.{TableType}
 use Rattle.meaning.specs.validation.Modules.{imported_functions, imported_memories, imported_tables, IsValid, memories_of}
 use Rattle.meaning.specs.validation.Types.{AreOrdered}
-use Rattle.validator.specs.IndexSpaces.{function_of, table_of, memory_of}
+use Rattle.index_spaces.specs.IndexSpaces.{function_of, table_of, memory_of}
 use Rattle.validator.specs.Modules.{IsValidImport, IsValidMemory, HasValidDeclarations}
-use Rattle.validator.proofs.IndexSpaces.{functions_imported, tables_imported, memories_imported}
+use Rattle.index_spaces.proofs.lemmas.IndexSpaces.{functions_imported, tables_imported, memories_imported}
 
 module _ {A : Type 0} (P : A → Type 0) where
   All-split : (xs ys : List A) → All P (xs ++ ys) → All P xs × All P ys

@@ -31,31 +31,31 @@ RuleAt context old o operands results = Rule (inside context (control_stack old)
 module _ {s : BodyContext} {old new : Stacks} where
   -- The same number of operands is taken as each rule takes. If they fit these, results that fit its own are pushed.
   pub rule_complete : {given left : List OperandType} (o : PlainOp) (results : List OperandType) → new.innermost ≡ old.innermost → new.outer
-      ≡ old.outer → Takes old.innermost.unreachable old.innermost.height old.operands.items given left → new.operands.items ≡ left ++ results
+      ≡ old.outer → Takes old.innermost.unreachable old.innermost.height old.operands given left → new.operands ≡ left ++ results
       → ((context : Context) → Describes s context → (theirs others : List OperandType) → RuleAt context old o theirs others
       → (length given ≡ length theirs) × (AllFit given theirs → AllFit results others)) → KeepsRest s old new (op.Plain o)
   rule_complete {left = left} o results innermost outer takes operands each = record {
     on = λ context is ops p.
         let n = plain_next p in
         let (long, fits) = each context is n.operands n.results n.rule in
-        IsTypingOfRest-parts context new.innermost old.innermost (reverse new.outer.items) (reverse old.outer.items) new.operands.items
+        IsTypingOfRest-parts context new.innermost old.innermost (reverse new.outer.items) (reverse old.outer.items) new.operands
         (left ++ results) ops innermost (ap (λ v. reverse v.items) outer) operands (plain_goes results takes p long fits);
   }
 
   -- Nothing can be reached after it.
   pub stop_complete : {given left : List OperandType} (o : PlainOp) → new.innermost ≡ unreachable_from_here old.innermost → new.outer ≡ old.outer
-      → Takes old.innermost.unreachable old.innermost.height old.operands.items given left → new.operands.items ≡ take old.innermost.height left
+      → Takes old.innermost.unreachable old.innermost.height old.operands given left → new.operands ≡ take old.innermost.height left
       → KeepsRest s old new (op.Plain o)
   stop_complete {left = left} o innermost outer takes operands = record {
     on = λ context is ops p.
         IsTypingOfRest-parts context new.innermost (unreachable_from_here old.innermost) (reverse new.outer.items) (reverse old.outer.items)
-        new.operands.items (take old.innermost.height left) ops innermost (ap (λ v. reverse v.items) outer) operands (plain_stops takes p);
+        new.operands (take old.innermost.height left) ops innermost (ap (λ v. reverse v.items) outer) operands (plain_stops takes p);
   }
 
 -- Operands that a rule takes on top are refused, whichever rule it is.
 pub rule_refused : {s : BodyContext} {old : Stacks} (o : PlainOp)
     → ((context : Context) → Describes s context → (theirs others : List OperandType) → RuleAt context old o theirs others
-    → (below wanted : List OperandType) × Refuses old.innermost.unreachable old.innermost.height old.operands.items wanted
+    → (below wanted : List OperandType) × Refuses old.innermost.unreachable old.innermost.height old.operands wanted
     × AllFit theirs (below ++ wanted))
     → CannotBeNext s old (op.Plain o)
 rule_refused o each = record {

@@ -3,7 +3,7 @@ use Rattle.std.proofs.Common.{◌≡◌, ℕ, ◌<◌, Bool, false, List, [], �
 use Rattle.std.proofs.lemmas.List.Elements.{All-get_or, All-head, All-tail, All-weaker}
 use Rattle.std.proofs.lemmas.List.{length-map}
 use Rattle.std.proofs.lemmas.Option.{slice_get-map, slice_get-get_or, slice_get_within}
-use Rattle.std.specs.Prelude.{◌↔◌, All, IfErr, IsTrue, OnErr, Option, Some, None, Result, Ok, Err, option_map, slice_get, unwrap_or}
+use Rattle.std.specs.Prelude.{Bool, ◌↔◌, All, IfErr, IsTrue, OnErr, Option, Some, None, Result, Ok, Err, option_map, slice_get, unwrap_or}
 use Rattle.core_types.specs.declared.module.DataMode.TheVariants as data_mode
 use Rattle.core_types.specs.declared.module.DataMode.{DataMode}
 use Rattle.core_types.specs.declared.module.DataSegment.{DataSegment}
@@ -36,9 +36,9 @@ use Rattle.meaning.specs.validation.Instructions.{AllFit, HasType, known, Rule}
 use Rattle.meaning.specs.validation.Modules.{constant_context, function_indices, HasDataMode, HasElementMode, HasItemsOfType, IsConstant, IsConstantExpression, IsValidElement, IsValidStart, type_at}
 use Rattle.meaning.specs.validation.Types.{reference_type}
 use Rattle.validator.specs.declared.constants.ConstantContext.{ConstantContext}
-use Rattle.validator.specs.declared.context.IndexSpaces.{IndexSpaces}
+use Rattle.index_spaces.specs.declared.IndexSpaces.{IndexSpaces}
 use Rattle.validator.specs.Constants.{GivesConstant, GivesGlobal, GivesReference, IsConstantContext, IsConstantIn, LeadsToOne, Operates}
-use Rattle.validator.specs.IndexSpaces.{AreIndexSpaces}
+use Rattle.index_spaces.specs.IndexSpaces.{AreIndexSpaces}
 use Rattle.validator.specs.ModuleParts.{AreItemsIn, IsDataModeIn, IsElementIn, IsElementModeIn, IsStartIn}
 use Rattle.validator.specs.References.{HasMarks}
 use Rattle.validator.proofs.completeness.Constants.{AreFit, before-operator, before-put, gives_one, operator_rule}
@@ -63,7 +63,8 @@ constant_global : (g : GlobalType) (t : ValType) → g.value ≡ t → g.mutabil
 constant_global g t value mutability =
     ap (λ (v : ValType). record { value = v; mutability = g.mutability }) value ∙ ap (λ (k : Mutability). record { value = t; mutability = k }) mutability
 
-module _ {m : Module} {s : IndexSpaces} {context : ConstantContext} (spaces : AreIndexSpaces m s) (marks : HasMarks m s) (lends : IsConstantContext m s context) where
+module _ {m : Module} {s : IndexSpaces} {marks : List Bool} {context : ConstantContext} (spaces : AreIndexSpaces m s) (has_marks : HasMarks m marks)
+    (lends : IsConstantContext m marks context) where
   reference_given : (op : ReferenceOp) (t : ValType) → IsConstant (constant_context m) (Plain (Reference op))
       → Rule (constant_context m) (Reference op) [] (known (t ∷ [])) → GivesReference context op t
   unfolding GivesReference
@@ -71,8 +72,8 @@ module _ {m : Module} {s : IndexSpaces} {context : ConstantContext} (spaces : Ar
   reference_given reference.IsNull t constant rule = absurd constant
   reference_given (reference.Func x) t constant rule =
       let inside = slice_get_within (map (type_at m.types) (function_indices m)) x rule.0 rule.1 in
-      let there : x < length s.functions.items = omega (arith, inside, length-map (function_indices m) (type_at m.types), ap length spaces.functions) in
-      (rw lends.declared (marks.set x there rule.2), let same = rule.3.1 in cc)
+      let there : x < length (function_indices m) = omega (arith, inside, length-map (function_indices m) (type_at m.types)) in
+      (rw lends.declared (has_marks.set x there rule.2), let same = rule.3.1 in cc)
 
   global_given : (op : VariableOp) (t : ValType) → IsConstant (constant_context m) (Plain (Variable op)) → Rule (constant_context m) (Variable op) [] (known (t ∷ [])) → GivesGlobal context op t
   unfolding GivesGlobal

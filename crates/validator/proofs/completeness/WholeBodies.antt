@@ -46,10 +46,10 @@ first_possible {context} {l} {results} body kind end_types bare height written t
 
 -- Before anything is read.
 pub first_goes : (s : BodyContext) (ops : List Op) (stacks : Stacks) → stacks.innermost.kind ≡ Function → stacks.innermost.end_types.now
-    ≡ s.results.now → stacks.innermost.height ≡ 0 → stacks.outer.items ≡ [] → stacks.operands.items ≡ [] → IsRestTyped s ops stacks ops
+    ≡ s.results.now → stacks.innermost.height ≡ 0 → stacks.outer.items ≡ [] → stacks.operands ≡ [] → IsRestTyped s ops stacks ops
 first_goes s ops stacks kind end_types height alone nothing = record {
   in_context = λ context is body written typed.
-      IsTypingOfRest-parts context stacks.innermost stacks.innermost (reverse stacks.outer.items) [] stacks.operands.items [] ops refl (ap (λ (z : List ControlFrame). reverse z) alone) nothing
+      IsTypingOfRest-parts context stacks.innermost stacks.innermost (reverse stacks.outer.items) [] stacks.operands [] ops refl (ap (λ (z : List ControlFrame). reverse z) alone) nothing
       (first_possible body kind end_types is.labels height written typed);
 }
 

@@ -11,9 +11,9 @@ use Rattle.core_types.specs.declared.module.Module.{Module}
 use Rattle.core_types.specs.declared.types.TableType.{TableType}
 use Rattle.meaning.specs.validation.Modules.{imported_functions, imported_memories, imported_tables, IsValid, IsValidFunction}
 use Rattle.meaning.specs.validation.Types.{AreFewPages, AreOrdered}
-use Rattle.validator.specs.IndexSpaces.{function_of, table_of, memory_of}
+use Rattle.index_spaces.specs.IndexSpaces.{function_of, table_of, memory_of}
 use Rattle.validator.specs.Modules.{IsValidImport, IsValidMemory, HasValidDeclarations, HasValidParts}
-use Rattle.validator.proofs.IndexSpaces.{functions_imported, tables_imported, memories_imported}
+use Rattle.index_spaces.proofs.lemmas.IndexSpaces.{functions_imported, tables_imported, memories_imported}
 
 All-filter_map : {A B : Type 0} (P : A → Type 0) (Q : B → Type 0) (h : A → Option B) → ((x : A) → P x → IfSome (h x) Q) → (xs : List A) → All P xs → All Q (filter_map h xs)
 All-filter_map P Q h gives [] all = All-nil Q

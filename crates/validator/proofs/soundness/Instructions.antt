@@ -28,24 +28,24 @@ IsTypingOfRead-parts context innermost l outer ls all operands read same_frame s
 module _ {s : BodyContext} {old new : Stacks} where
   -- Operands are taken that fit those of a rule, and its results are pushed.
   pub rule_sound : {given left : List OperandType} (o : PlainOp) (wanted results : List OperandType) → new.innermost ≡ old.innermost → new.outer
-      ≡ old.outer → Takes old.innermost.unreachable old.innermost.height old.operands.items given left → AllFit given wanted
-      → new.operands.items ≡ left ++ results → ((context : Context) → Describes s context → Rule (inside context (control_stack old)) o wanted results) → KeepsRead s old new (op.Plain o)
+      ≡ old.outer → Takes old.innermost.unreachable old.innermost.height old.operands given left → AllFit given wanted
+      → new.operands ≡ left ++ results → ((context : Context) → Describes s context → Rule (inside context (control_stack old)) o wanted results) → KeepsRead s old new (op.Plain o)
   rule_sound {left = left} o wanted results innermost outer takes fits operands rule = record {
     keeps = λ context described read opened.
-        IsTypingOfRead-parts context new.innermost old.innermost (reverse new.outer.items) (reverse old.outer.items) new.operands.items
+        IsTypingOfRead-parts context new.innermost old.innermost (reverse new.outer.items) (reverse old.outer.items) new.operands
         (left ++ results) (read ++ op.Plain o ∷ []) innermost (ap (λ v. reverse v.items) outer) operands
         (plain_open o results (took_open wanted opened takes fits) (rule context described));
   }
 
   -- Operands are taken that fit those of a rule, over anything, which leads to anything.
   pub stop_sound : {given left : List OperandType} (o : PlainOp) (wanted : List OperandType) → new.innermost ≡ unreachable_from_here old.innermost
-      → new.outer ≡ old.outer → Takes old.innermost.unreachable old.innermost.height old.operands.items given left → AllFit given wanted
-      → new.operands.items ≡ take old.innermost.height left
+      → new.outer ≡ old.outer → Takes old.innermost.unreachable old.innermost.height old.operands given left → AllFit given wanted
+      → new.operands ≡ take old.innermost.height left
       → ((context : Context) → Describes s context → (any to : List OperandType) → Rule (inside context (control_stack old)) o (any ++ wanted) to)
       → KeepsRead s old new (op.Plain o)
   stop_sound {left = left} o wanted innermost outer takes fits operands rule = record {
     keeps = λ context described read opened.
         IsTypingOfRead-parts context new.innermost (unreachable_from_here old.innermost) (reverse new.outer.items) (reverse old.outer.items)
-        new.operands.items (take old.innermost.height left) (read ++ op.Plain o ∷ []) innermost (ap (λ v. reverse v.items) outer) operands
+        new.operands (take old.innermost.height left) (read ++ op.Plain o ∷ []) innermost (ap (λ v. reverse v.items) outer) operands
         (stop_open o (took_open wanted opened takes fits) (rule context described));
   }

@@ -3,7 +3,7 @@ use Rattle.std.proofs.Common.{◌≡◌, ℕ, suc, ◌+◌, ◌-◌, ◌<◌, �
 use Rattle.std.proofs.lemmas.List.Elements.{All-nil, All-cons, All-weaker}
 use Rattle.std.proofs.lemmas.List.{append-nil, map-append, replicate-append-replicate}
 use Rattle.std.proofs.lemmas.Option.{slice_get-map, slice_get-get_or, slice_get_within}
-use Rattle.std.specs.Prelude.{All, Option, Some, None, option_map, true, slice_get, unwrap_or, replicate}
+use Rattle.std.specs.Prelude.{Bool, All, Option, Some, None, option_map, true, slice_get, unwrap_or, replicate}
 use Rattle.core_types.specs.declared.module.DataMode.TheVariants as data_mode
 use Rattle.core_types.specs.declared.module.DataMode.{DataMode}
 use Rattle.core_types.specs.declared.module.DataSegment.{DataSegment}
@@ -41,10 +41,10 @@ use Rattle.meaning.specs.validation.Modules.{constant_context, Exists, function_
 use Rattle.meaning.specs.validation.Modules.{IsConstantExpression, IsValidElement, IsValidStart, type_at}
 use Rattle.meaning.specs.validation.Types.{reference_type}
 use Rattle.validator.specs.declared.constants.ConstantContext.{ConstantContext}
-use Rattle.validator.specs.declared.context.IndexSpaces.{IndexSpaces}
+use Rattle.index_spaces.specs.declared.IndexSpaces.{IndexSpaces}
 use Rattle.validator.specs.Constants.{GivesConstant, GivesGlobal, GivesReference, IsConstantContext, IsConstantIn, LeadsToOne, Operates}
 use Rattle.meaning.proofs.lemmas.Typing.{AllFit-same}
-use Rattle.validator.specs.IndexSpaces.{AreIndexSpaces}
+use Rattle.index_spaces.specs.IndexSpaces.{AreIndexSpaces}
 use Rattle.validator.specs.ModuleParts.{AreItemsIn, ExistsIn, IsDataModeIn, IsElementIn, IsElementModeIn, IsStartIn}
 use Rattle.validator.specs.References.{HasMarks}
 
@@ -74,11 +74,12 @@ takes_two t height behind two is =
       after_is = ap (all_of t) one ∙ all_of-parts t (height - 2) 1;
     }
 
-module _ {m : Module} {s : IndexSpaces} {context : ConstantContext} (spaces : AreIndexSpaces m s) (marks : HasMarks m s) (lends : IsConstantContext m s context) where
+module _ {m : Module} {s : IndexSpaces} {marks : List Bool} {context : ConstantContext} (spaces : AreIndexSpaces m s) (has_marks : HasMarks m marks)
+    (lends : IsConstantContext m marks context) where
   -- A marked function exists.
-  function_there : (x : ℕ) → slice_get s.declared.items x ≡ Some true → (f : FuncType) × (slice_get (map (type_at m.types) (function_indices m)) x ≡ Some f)
+  function_there : (x : ℕ) → slice_get marks x ≡ Some true → (f : FuncType) × (slice_get (map (type_at m.types) (function_indices m)) x ≡ Some f)
   function_there x set =
-      let inside : x < length (function_indices m) = omega (arith, slice_get_within s.declared.items x true set, marks.one_for_each, ap length spaces.functions) in
+      let inside : x < length (function_indices m) = omega (arith, slice_get_within marks x true set, has_marks.one_for_each) in
       let index = get_or (function_indices m) x 0 in
       (type_at m.types index, slice_get-map (type_at m.types) (function_indices m) x ∙ ap (option_map (type_at m.types)) (slice_get-get_or (function_indices m) x 0 inside))
 
@@ -93,7 +94,7 @@ module _ {m : Module} {s : IndexSpaces} {context : ConstantContext} (spaces : Ar
   reference_constant (reference.Func x) t h =
       let set = rw lends.declared at h.0 in
       let f = function_there x set in
-      (tt, (f.0, f.1, spaces.declared x set, (refl, ap (λ (u : ValType). known (u ∷ [])) h.1)))
+      (tt, (f.0, f.1, has_marks.named x set, (refl, ap (λ (u : ValType). known (u ∷ [])) h.1)))
 
   global_constant : (op : VariableOp) (t : ValType) → GivesGlobal context op t → IsConstantOf (Variable op) t
   unfolding GivesGlobal IsConstantOf

@@ -21,10 +21,10 @@ use Rattle.validator.proofs.soundness.ReadBodies.{whole_body, nothing_open, took
 -- Before anything is read.
 pub first_read : (s : BodyContext) (stacks : Stacks) → stacks.innermost.kind ≡ Function → stacks.innermost.start_types.now ≡ []
     → stacks.innermost.end_types.now ≡ s.results.now → stacks.innermost.height ≡ 0 → stacks.innermost.unreachable ≡ false → stacks.outer.items ≡ []
-    → stacks.operands.items ≡ [] → IsReadTyped s stacks []
+    → stacks.operands ≡ [] → IsReadTyped s stacks []
 first_read s stacks kind start_types end_types height alive alone nothing = record {
   in_context = λ context described.
-      IsTypingOfRead-parts context stacks.innermost stacks.innermost (reverse stacks.outer.items) [] stacks.operands.items [] [] refl
+      IsTypingOfRead-parts context stacks.innermost stacks.innermost (reverse stacks.outer.items) [] stacks.operands [] [] refl
       (ap (λ (z : List ControlFrame). reverse z) alone) nothing
       (nothing_open stacks.innermost kind start_types (described.results ∙ ap Some (sym end_types)) height alive);
 }
@@ -37,7 +37,7 @@ next_read s old new read o before reads = record { in_context = λ context descr
 all_read : (s : BodyContext) (stacks : Stacks) (left : List OperandType) (read : List Op) → IsReadTyped s stacks read → stacks.outer.items ≡ [] → Closes stacks left → IsTyped s read
 all_read s stacks left read before alone closes = record {
   in_context = λ context described.
-      let opened = subst (λ (z : List ControlFrame). IsTypingOfRead context stacks.innermost (reverse z) stacks.operands.items [] read) alone (before.in_context context described) in
+      let opened = subst (λ (z : List ControlFrame). IsTypingOfRead context stacks.innermost (reverse z) stacks.operands [] read) alone (before.in_context context described) in
       let whole = took_open (known stacks.innermost.end_types.now) opened closes.takes closes.fits in
       let (kind, start_types, ends, under, nothing) = whole.around in
       let end_types : stacks.innermost.end_types.now ≡ s.results.now = cc in

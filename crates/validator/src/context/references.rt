@@ -1,13 +1,12 @@
-ghost use Rattle.std.specs.Prelude.{IfOk, List, slice_set, true, ◌∷◌, ◌≡◌};
+ghost use Rattle.std.specs.Prelude.{IfOk, List, false, length, replicate, slice_set, true, ◌∷◌, ◌≡◌};
 ghost use Rattle.core_types.specs.Expressions.{lent_op};
 ghost use Rattle.core_types.specs.declared.op.Op.{Op as Operation};
-ghost use Rattle.meaning.specs.validation.Modules.{named_by, named_by_each, named_by_elements, named_by_exports, named_by_globals, named_by_items};
-ghost use Rattle.validator.specs.References.{marks_of, named_in, set_marks};
+ghost use Rattle.meaning.specs.validation.Modules.{function_indices, named_by, named_by_each, named_by_elements, named_by_exports, named_by_globals, named_by_items, named_functions};
+ghost use Rattle.validator.specs.References.{HasMarks, set_marks};
 
-use crate::context::ModuleParts;
 use core_types::{
     ElementItems, ElementSegment, Export, ExportDesc, Expression, Global as ModuleGlobal, LentOp,
-    PlainOp, ReferenceOp, plain_op,
+    Module, PlainOp, ReferenceOp, plain_op,
 };
 use std::alloc::{AllocError, Global};
 
@@ -101,25 +100,34 @@ fn mark_exports(marks: &mut [bool], exports: &[Export])
     }
 }
 
-// Marks the functions that the parts of a module name.
+// Marks the functions that a module names outside of bodies and the start.
 #[tactic(auto, using(crate::proofs::References::marked_append))]
-fn mark_parts(marks: &mut [bool], parts: &ModuleParts<'_>)
-    ensures { marks.new ≡ set_marks marks.old (named_in parts.now) }
+fn mark_module(marks: &mut [bool], decoded: &Module)
+    ensures { marks.new ≡ set_marks marks.old (named_functions decoded.now) }
 {
-    mark_globals(marks, parts.globals);
-    mark_elements(marks, parts.elements);
-    mark_exports(marks, parts.exports);
+    mark_globals(marks, decoded.globals.as_slice());
+    mark_elements(marks, decoded.elements.as_slice());
+    mark_exports(marks, decoded.exports.as_slice());
 }
 
-// For each function by index, whether the parts of a module name it.
-pub fn mark_references(
-    alloc: Global,
-    parts: &ModuleParts<'_>,
-    count: usize,
-) -> Result<Vec<bool>, AllocError>
-    ensures { IfOk result (λ marks. marks.items ≡ marks_of (named_in parts.now) count) }
+// Returns this number of marks, after those of the functions that a module names are set.
+fn marks_of(alloc: Global, decoded: &Module, count: usize) -> Result<Vec<bool>, AllocError>
+    ensures { IfOk result (λ marks. marks.items
+        ≡ set_marks (replicate count false) (named_functions decoded.now)) }
 {
     let mut marks = vec![in alloc; false; count]?;
-    mark_parts(&mut marks, parts);
+    mark_module(&mut marks, decoded);
     Ok(marks)
+}
+
+// Returns for each function of a module with so many whether it is named outside of bodies and the start.
+pub fn mark_references(
+    alloc: Global,
+    decoded: &Module,
+    count: usize,
+) -> Result<Vec<bool>, AllocError>
+    requires { count ≡ length (function_indices decoded.now) }
+    ensures { IfOk result (λ marks. HasMarks decoded.now marks.items) }
+{
+    marks_of(alloc, decoded, count)
 }

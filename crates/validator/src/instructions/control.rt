@@ -19,9 +19,9 @@ use core_types::ControlOp;
 
 // Steps over a control instruction.
 #[inline(always)]
-pub fn step_control(
-    context: &BodyContext<'_>,
-    stacks: &mut Stacks<'_>,
+pub fn step_control<'a>(
+    context: &BodyContext<'a>,
+    stacks: &mut Stacks<'a>,
     op: ControlOp,
 ) -> Result<(), Fault>
     ensures { Steps context.now stacks.old stacks.new (flat.Plain (plain.Control op)) result }

@@ -14,7 +14,7 @@ use Rattle.interpreter.specs.Calling.{frame_waiting}
 use Rattle.interpreter.specs.declared.machine.CallKind.{CallKind}
 use Rattle.interpreter.specs.declared.machine.Frame.{Frame}
 use Rattle.interpreter.proofs.Forms.{inside}
-use Rattle.interpreter.proofs.Turning.{place-fits}
+use Rattle.interpreter.proofs.Executing.{place-fits}
 use Rattle.exec.specs.Hosting.{WaitsForHost, position_answered, with_results}
 use Rattle.exec.specs.Resting.{at_rest, machine_of}
 use Rattle.hostfunc.specs.Boxes.{HostStep}

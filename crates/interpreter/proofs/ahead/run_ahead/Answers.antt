@@ -33,47 +33,48 @@ pub fetch-requires : goal.fetch-requires
 fetch-requires c = record { code = c.as_slice-operations.ensures.value; sound = runs-there _ _ _ c.loop-x.invariant.ran c.requires.sound }
 
 pub loop-x-preserved-in-LocalGet : goal.loop-x-preserved-in-LocalGet
-loop-x-preserved-in-LocalGet c = pays-ahead _ _ _ _ _ _ _ c.loop-x.invariant c.fetch.ensures.inside _ _ c.fetch.ensures.turns c.in-LocalGet.is _ _ _ _ _ (λ g leads. leads.0)
+loop-x-preserved-in-LocalGet c = pays-ahead _ _ _ _ _ _ _ c.loop-x.invariant c.fetch.ensures.inside _ _ c.fetch.ensures.executes c.in-LocalGet.is _ _ _ _ _ (λ g leads. leads.0)
 
 pub loop-x-preserved-in-LocalSet : goal.loop-x-preserved-in-LocalSet
-loop-x-preserved-in-LocalSet c = pays-ahead _ _ _ _ _ _ _ c.loop-x.invariant c.fetch.ensures.inside _ _ c.fetch.ensures.turns c.in-LocalSet.is _ _ _ _ _ (λ g leads. leads.0)
+loop-x-preserved-in-LocalSet c = pays-ahead _ _ _ _ _ _ _ c.loop-x.invariant c.fetch.ensures.inside _ _ c.fetch.ensures.executes c.in-LocalSet.is _ _ _ _ _ (λ g leads. leads.0)
 
 pub loop-x-preserved-in-LocalTee : goal.loop-x-preserved-in-LocalTee
-loop-x-preserved-in-LocalTee c = pays-ahead _ _ _ _ _ _ _ c.loop-x.invariant c.fetch.ensures.inside _ _ c.fetch.ensures.turns c.in-LocalTee.is _ _ _ _ _ (λ g leads. leads.0)
+loop-x-preserved-in-LocalTee c = pays-ahead _ _ _ _ _ _ _ c.loop-x.invariant c.fetch.ensures.inside _ _ c.fetch.ensures.executes c.in-LocalTee.is _ _ _ _ _ (λ g leads. leads.0)
 
 pub loop-x-preserved-in-I32Const : goal.loop-x-preserved-in-I32Const
-loop-x-preserved-in-I32Const c = pays-ahead _ _ _ _ _ _ _ c.loop-x.invariant c.fetch.ensures.inside _ _ c.fetch.ensures.turns c.in-I32Const.is _ _ _ _ _ (λ g leads. rw c.from.ensures leads.0)
+loop-x-preserved-in-I32Const c = pays-ahead _ _ _ _ _ _ _ c.loop-x.invariant c.fetch.ensures.inside _ _ c.fetch.ensures.executes c.in-I32Const.is _ _ _ _ _ (λ g leads. rw c.from.ensures leads.0)
 
 pub loop-x-preserved-in-I32Add : goal.loop-x-preserved-in-I32Add
 loop-x-preserved-in-I32Add c =
     let below = get_or c.loop-x.cells (c.loop-x.at.top - 1) 0 in
     let sum : (c.low.result + c.low-in-I32Add.result) % 2 ^ 32 ≡ (below + c.loop-x.at.operand) % 2 ^ 32 =
     rw (c.low.ensures, c.low-in-I32Add.ensures) (mod-add-mod below (2 ^ 32) (c.loop-x.at.operand % 2 ^ 32) ∙ add-mod-mod below c.loop-x.at.operand (2 ^ 32)) in
-    pays-ahead _ _ _ _ _ _ _ c.loop-x.invariant c.fetch.ensures.inside _ _ c.fetch.ensures.turns c.in-I32Add.is _ _ _ _ _ (λ g leads. rw (c.from-in-I32Add.ensures, sum) leads.0)
+    pays-ahead _ _ _ _ _ _ _ c.loop-x.invariant c.fetch.ensures.inside _ _ c.fetch.ensures.executes c.in-I32Add.is _ _ _ _ _ (λ g leads. rw (c.from-in-I32Add.ensures, sum) leads.0)
 
 pub loop-x-preserved-in-Enter : goal.loop-x-preserved-in-Enter
-loop-x-preserved-in-Enter c = pays-ahead _ _ _ _ _ _ _ c.loop-x.invariant c.fetch.ensures.inside _ _ c.fetch.ensures.turns c.in-Enter.is _ _ _ _ _ (λ g leads. leads.0)
+loop-x-preserved-in-Enter c = pays-ahead _ _ _ _ _ _ _ c.loop-x.invariant c.fetch.ensures.inside _ _ c.fetch.ensures.executes c.in-Enter.is _ _ _ _ _ (λ g leads. leads.0)
 
 pub returns-then-at : goal.returns-then-at
 returns-then-at c = record { stops = ran-here _ _ _ _ _ _ _ c.loop-x.invariant c.fetch.ensures.inside _ c.add_rest.ensures }
 
 pub spare_at-requires-clause-there : goal.spare_at-requires-clause-there
 spare_at-requires-clause-there c = let inside = before-end _ _ _
-    (jumps-ahead _ _ _ _ _ _ _ c.loop-x.invariant c.fetch.ensures.inside _ _ c.fetch.ensures.turns c.in-If.is c.loop-x.cells
+    (jumps-ahead _ _ _ _ _ _ _ c.loop-x.invariant c.fetch.ensures.inside _ _ c.fetch.ensures.executes c.in-If.is c.loop-x.cells
     c.entry-target.result.target (c.loop-x.at.top - 1) (get_or c.loop-x.cells (c.loop-x.at.top - 1) 0)
     (λ g leads. rw c.entry-target.ensures (leads.0 c.if-condition-eq0.true))) c.requires.sound in rw c.as_slice-operations.ensures.value (omega (arith, inside))
 
 pub loop-x-preserved-then-condition-eq0 : goal.loop-x-preserved-then-condition-eq0
 loop-x-preserved-then-condition-eq0 c = jumps-on _ _ _ _ _ _ _ c.loop-x.invariant c.fetch.ensures.inside _ _ c.spare_at.ensures
-    (jumps-ahead _ _ _ _ _ _ _ c.loop-x.invariant c.fetch.ensures.inside _ _ c.fetch.ensures.turns c.in-If.is c.loop-x.cells
+    (jumps-ahead _ _ _ _ _ _ _ c.loop-x.invariant c.fetch.ensures.inside _ _ c.fetch.ensures.executes c.in-If.is c.loop-x.cells
     c.entry-target.result.target (c.loop-x.at.top - 1) (get_or c.loop-x.cells (c.loop-x.at.top - 1) 0)
     (λ g leads. rw c.entry-target.ensures (leads.0 c.if-condition-eq0.true)))
 
 pub loop-x-preserved-else-condition-eq0 : goal.loop-x-preserved-else-condition-eq0
-loop-x-preserved-else-condition-eq0 c = pays-ahead _ _ _ _ _ _ _ c.loop-x.invariant c.fetch.ensures.inside _ _ c.fetch.ensures.turns c.in-If.is _ _ _ _ _ (λ g leads. leads.1 c.if-condition-eq0.false)
+loop-x-preserved-else-condition-eq0 c =
+    pays-ahead _ _ _ _ _ _ _ c.loop-x.invariant c.fetch.ensures.inside _ _ c.fetch.ensures.executes c.in-If.is _ _ _ _ _ (λ g leads. leads.1 c.if-condition-eq0.false)
 
 pub loop-x-preserved-then-condition-eq0-2 : goal.loop-x-preserved-then-condition-eq0-2
-loop-x-preserved-then-condition-eq0-2 c = pays-ahead _ _ _ _ _ _ _ c.loop-x.invariant c.fetch.ensures.inside _ _ c.fetch.ensures.turns c.in-BrIf.is _
+loop-x-preserved-then-condition-eq0-2 c = pays-ahead _ _ _ _ _ _ _ c.loop-x.invariant c.fetch.ensures.inside _ _ c.fetch.ensures.executes c.in-BrIf.is _
     _ _ _ _ (λ g leads. leads.0 c.if-condition-eq0-2.true)
 
 pub returns-then-at-2 : goal.returns-then-at-2
@@ -82,7 +83,7 @@ returns-then-at-2 c = record { stops = ran-here _ _ _ _ _ _ _ c.loop-x.invariant
 pub ahead_at-at-requires-clause-there : goal.ahead_at-at-requires-clause-there
 ahead_at-at-requires-clause-there c =
     let place = ap (λ (p : Position). p.place) c.branch-cells.ensures.landed in
-    let inside = before-end _ _ _ (branches-ahead _ _ _ _ _ _ _ c.loop-x.invariant c.fetch.ensures.inside _ _ c.fetch.ensures.turns c.in-BrIf.is
+    let inside = before-end _ _ _ (branches-ahead _ _ _ _ _ _ _ c.loop-x.invariant c.fetch.ensures.inside _ _ c.fetch.ensures.executes c.in-BrIf.is
     c.entry-e.result c.entry-e.ensures _ _ c.branch-cells.ensures.moved c.if-condition-eq0-2.false) c.requires.sound in
     rw c.as_slice-operations.ensures.value (omega (arith, place, inside))
 
@@ -95,14 +96,14 @@ loop-x-smaller-else-condition-eq0-2 c = lands-smaller _ _ _ _ _ _ _ c.loop-x.inv
 pub loop-x-preserved-else-condition-eq0-2 : goal.loop-x-preserved-else-condition-eq0-2
 loop-x-preserved-else-condition-eq0-2 c = lands-on _ _ _ _ _ _ _ c.loop-x.invariant c.fetch.ensures.inside c.branch-cells.new.cells _ _
     c.branch-cells.ensures.landed refl _ c.ahead_at-at.ensures refl
-    (branches-ahead _ _ _ _ _ _ _ c.loop-x.invariant c.fetch.ensures.inside _ _ c.fetch.ensures.turns c.in-BrIf.is c.entry-e.result c.entry-e.ensures
+    (branches-ahead _ _ _ _ _ _ _ c.loop-x.invariant c.fetch.ensures.inside _ _ c.fetch.ensures.executes c.in-BrIf.is c.entry-e.result c.entry-e.ensures
     _ _ c.branch-cells.ensures.moved c.if-condition-eq0-2.false)
 
 pub call-requires-clause-sound : goal.call-requires-clause-sound
 call-requires-clause-sound c = lent _ _ _ _ _ _ _ c.loop-x.invariant c.fetch.ensures.inside c.requires.sound
 
-pub call-requires-clause-turns : goal.call-requires-clause-turns
-call-requires-clause-turns c = rw c.in-Call.is at c.fetch.ensures.turns
+pub call-requires-clause-executes : goal.call-requires-clause-executes
+call-requires-clause-executes c = rw c.in-Call.is at c.fetch.ensures.executes
 
 pub returns-then-at-3 : goal.returns-then-at-3
 returns-then-at-3 c = record { stops = ran-here _ _ _ _ _ _ _ c.loop-x.invariant c.fetch.ensures.inside _ c.add_rest-then-at-3.ensures }
@@ -145,7 +146,7 @@ returns-in-Stops c = record {
 }
 
 pub leave-requires-clause-leaves : goal.leave-requires-clause-leaves
-leave-requires-clause-leaves c = (1, leaves-ahead _ _ _ _ _ _ _ c.loop-x.invariant c.fetch.ensures.inside c.requires.sound _ _ c.fetch.ensures.turns c.in-Leave.is)
+leave-requires-clause-leaves c = (1, leaves-ahead _ _ _ _ _ _ _ c.loop-x.invariant c.fetch.ensures.inside c.requires.sound _ _ c.fetch.ensures.executes c.in-Leave.is)
 
 pub returns-then-at-4 : goal.returns-then-at-4
 returns-then-at-4 c = record { stops = ran-here _ _ _ _ _ _ _ c.loop-x.invariant c.fetch.ensures.inside _ c.add_rest-then-at-4.ensures }
@@ -153,24 +154,24 @@ returns-then-at-4 c = record { stops = ran-here _ _ _ _ _ _ _ c.loop-x.invariant
 pub ahead_at-at-requires-in-Goes-leave-clause-there : goal.ahead_at-at-requires-in-Goes-leave-clause-there
 ahead_at-at-requires-in-Goes-leave-clause-there c = goes-within _ _ _ _ _ _ _ c.loop-x.invariant c.fetch.ensures.inside c.requires.sound
     c.leave.new.cells c.leave.new.callers c.leave.new.at
-    (c.in-Goes-leave.ensures 1 (leaves-ahead _ _ _ _ _ _ _ c.loop-x.invariant c.fetch.ensures.inside c.requires.sound _ _ c.fetch.ensures.turns
+    (c.in-Goes-leave.ensures 1 (leaves-ahead _ _ _ _ _ _ _ c.loop-x.invariant c.fetch.ensures.inside c.requires.sound _ _ c.fetch.ensures.executes
     c.in-Leave.is)) (rw c.as_slice-operations.ensures.value)
 
 pub ahead_at-at-requires-in-Goes-leave-clause-one : goal.ahead_at-at-requires-in-Goes-leave-clause-one
 ahead_at-at-requires-in-Goes-leave-clause-one c = goes-left _ _ _ _ _ _ _ c.loop-x.invariant c.fetch.ensures.inside c.requires.sound c.leave.new.cells
     c.leave.new.callers c.leave.new.at
-    (c.in-Goes-leave.ensures 1 (leaves-ahead _ _ _ _ _ _ _ c.loop-x.invariant c.fetch.ensures.inside c.requires.sound _ _ c.fetch.ensures.turns c.in-Leave.is))
+    (c.in-Goes-leave.ensures 1 (leaves-ahead _ _ _ _ _ _ _ c.loop-x.invariant c.fetch.ensures.inside c.requires.sound _ _ c.fetch.ensures.executes c.in-Leave.is))
 
 pub loop-x-smaller-in-Goes-leave : goal.loop-x-smaller-in-Goes-leave
 loop-x-smaller-in-Goes-leave c = goes-smaller _ _ _ _ _ _ _ c.loop-x.invariant c.fetch.ensures.inside c.requires.sound c.leave.new.cells
     c.leave.new.callers c.leave.new.at
-    (c.in-Goes-leave.ensures 1 (leaves-ahead _ _ _ _ _ _ _ c.loop-x.invariant c.fetch.ensures.inside c.requires.sound _ _ c.fetch.ensures.turns
+    (c.in-Goes-leave.ensures 1 (leaves-ahead _ _ _ _ _ _ _ c.loop-x.invariant c.fetch.ensures.inside c.requires.sound _ _ c.fetch.ensures.executes
     c.in-Leave.is)) _ c.ahead_at-at-in-Goes-leave.ensures
 
 pub loop-x-preserved-in-Goes-leave : goal.loop-x-preserved-in-Goes-leave
 loop-x-preserved-in-Goes-leave c = goes-ahead _ _ _ _ _ _ _ c.loop-x.invariant c.fetch.ensures.inside c.requires.sound c.leave.new.cells
     c.leave.new.callers c.leave.new.at
-    (c.in-Goes-leave.ensures 1 (leaves-ahead _ _ _ _ _ _ _ c.loop-x.invariant c.fetch.ensures.inside c.requires.sound _ _ c.fetch.ensures.turns
+    (c.in-Goes-leave.ensures 1 (leaves-ahead _ _ _ _ _ _ _ c.loop-x.invariant c.fetch.ensures.inside c.requires.sound _ _ c.fetch.ensures.executes
     c.in-Leave.is)) _ c.ahead_at-at-in-Goes-leave.ensures
 
 pub add_rest-requires-in-Switches-leave-clause-one : goal.add_rest-requires-in-Switches-leave-clause-one
@@ -178,9 +179,9 @@ add_rest-requires-in-Switches-leave-clause-one c = stops-left _ _ _ _ _ _ _ c.lo
     c.leave.new.cells c.leave.new.callers c.leave.new.at (omega arith) (world_at c.args.around c.loop-x.state c.loop-x.memory) stop.Switches
     (record {
       from = (c.in-Switches-leave.ensures 1
-          (leaves-ahead _ _ _ _ _ _ _ c.loop-x.invariant c.fetch.ensures.inside c.requires.sound _ _ c.fetch.ensures.turns c.in-Leave.is)).0;
+          (leaves-ahead _ _ _ _ _ _ _ c.loop-x.invariant c.fetch.ensures.inside c.requires.sound _ _ c.fetch.ensures.executes c.in-Leave.is)).0;
       falls = (c.in-Switches-leave.ensures 1
-          (leaves-ahead _ _ _ _ _ _ _ c.loop-x.invariant c.fetch.ensures.inside c.requires.sound _ _ c.fetch.ensures.turns c.in-Leave.is)).1;
+          (leaves-ahead _ _ _ _ _ _ _ c.loop-x.invariant c.fetch.ensures.inside c.requires.sound _ _ c.fetch.ensures.executes c.in-Leave.is)).1;
     })
 
 pub returns-in-Switches-leave : goal.returns-in-Switches-leave
@@ -189,9 +190,9 @@ returns-in-Switches-leave c = record {
       c.leave.new.callers c.leave.new.at _ stop.Switches
       (record {
         from = (c.in-Switches-leave.ensures 1
-            (leaves-ahead _ _ _ _ _ _ _ c.loop-x.invariant c.fetch.ensures.inside c.requires.sound _ _ c.fetch.ensures.turns c.in-Leave.is)).0;
+            (leaves-ahead _ _ _ _ _ _ _ c.loop-x.invariant c.fetch.ensures.inside c.requires.sound _ _ c.fetch.ensures.executes c.in-Leave.is)).0;
         falls = (c.in-Switches-leave.ensures 1
-            (leaves-ahead _ _ _ _ _ _ _ c.loop-x.invariant c.fetch.ensures.inside c.requires.sound _ _ c.fetch.ensures.turns c.in-Leave.is)).1;
+            (leaves-ahead _ _ _ _ _ _ _ c.loop-x.invariant c.fetch.ensures.inside c.requires.sound _ _ c.fetch.ensures.executes c.in-Leave.is)).1;
       }) _
       c.add_rest-in-Switches-leave.ensures _ refl;
 }
@@ -199,35 +200,35 @@ returns-in-Switches-leave c = record {
 pub add_rest-requires-in-Stops-leave-clause-one : goal.add_rest-requires-in-Stops-leave-clause-one
 add_rest-requires-in-Stops-leave-clause-one c = stops-left _ _ _ _ _ _ _ c.loop-x.invariant c.fetch.ensures.inside c.requires.sound c.leave.new.cells
     c.leave.new.callers c.leave.new.at (omega arith) _ _
-    (c.in-Stops-leave.ensures 1 (leaves-ahead _ _ _ _ _ _ _ c.loop-x.invariant c.fetch.ensures.inside c.requires.sound _ _ c.fetch.ensures.turns c.in-Leave.is))
+    (c.in-Stops-leave.ensures 1 (leaves-ahead _ _ _ _ _ _ _ c.loop-x.invariant c.fetch.ensures.inside c.requires.sound _ _ c.fetch.ensures.executes c.in-Leave.is))
 
 pub returns-in-Stops-leave : goal.returns-in-Stops-leave
 returns-in-Stops-leave c = record {
   stops = stops-ahead _ _ _ _ _ _ _ c.loop-x.invariant c.fetch.ensures.inside c.requires.sound c.leave.new.cells
       c.leave.new.callers c.leave.new.at _ _
-      (c.in-Stops-leave.ensures 1 (leaves-ahead _ _ _ _ _ _ _ c.loop-x.invariant c.fetch.ensures.inside c.requires.sound _ _ c.fetch.ensures.turns
+      (c.in-Stops-leave.ensures 1 (leaves-ahead _ _ _ _ _ _ _ c.loop-x.invariant c.fetch.ensures.inside c.requires.sound _ _ c.fetch.ensures.executes
       c.in-Leave.is)) _ c.add_rest-in-Stops-leave.ensures _ c.with_more-in-Stops-leave.ensures;
 }
 
 pub loop-x-preserved-in-I32Load : goal.loop-x-preserved-in-I32Load
-loop-x-preserved-in-I32Load c = pays-ahead _ _ _ _ _ _ _ c.loop-x.invariant c.fetch.ensures.inside _ _ c.fetch.ensures.turns c.in-I32Load.is _ _ _ _ _
+loop-x-preserved-in-I32Load c = pays-ahead _ _ _ _ _ _ _ c.loop-x.invariant c.fetch.ensures.inside _ _ c.fetch.ensures.executes c.in-I32Load.is _ _ _ _ _
     (λ g leads. rw c.in-Ok.is at (leads.0 c.load_i32.result (rw c.from-in-I32Load.ensures at c.load_i32.ensures)))
 
 pub loop-x-preserved-in-Binary : goal.loop-x-preserved-in-Binary
-loop-x-preserved-in-Binary c = pays-ahead _ _ _ _ _ _ _ c.loop-x.invariant c.fetch.ensures.inside _ _ c.fetch.ensures.turns c.in-Binary.is _ _ _ _ _
+loop-x-preserved-in-Binary c = pays-ahead _ _ _ _ _ _ _ c.loop-x.invariant c.fetch.ensures.inside _ _ c.fetch.ensures.executes c.in-Binary.is _ _ _ _ _
     (λ g leads. rw c.in-Ok-compute_binary.is at (leads.0 c.compute_binary.result c.compute_binary.ensures))
 
 pub loop-x-preserved-in-Load : goal.loop-x-preserved-in-Load
-loop-x-preserved-in-Load c = pays-ahead _ _ _ _ _ _ _ c.loop-x.invariant c.fetch.ensures.inside _ _ c.fetch.ensures.turns c.in-Load.is _ _ _ _ _
+loop-x-preserved-in-Load c = pays-ahead _ _ _ _ _ _ _ c.loop-x.invariant c.fetch.ensures.inside _ _ c.fetch.ensures.executes c.in-Load.is _ _ _ _ _
     (λ g leads. rw c.in-Ok-load_cell.is at (leads.0 c.load_cell.result (rw c.from-in-Load.ensures at c.load_cell.ensures)))
 
 pub loop-x-preserved-in-Store : goal.loop-x-preserved-in-Store
-loop-x-preserved-in-Store c = pays-ahead _ _ _ _ _ _ _ c.loop-x.invariant c.fetch.ensures.inside _ _ c.fetch.ensures.turns c.in-Store.is _ _ _ _ _
+loop-x-preserved-in-Store c = pays-ahead _ _ _ _ _ _ _ c.loop-x.invariant c.fetch.ensures.inside _ _ c.fetch.ensures.executes c.in-Store.is _ _ _ _ _
     (λ g leads. leads.0 (Ok c.store_cell.new.bytes) (rw (c.from-in-Store.ensures, c.in-Ok-store_cell.is) at c.store_cell.ensures))
 
 pub returns-in-Err : goal.returns-in-Err
 returns-in-Err c = record {
-  stops = fails-ahead _ _ _ _ _ _ _ c.loop-x.invariant c.fetch.ensures.inside _ _ c.fetch.ensures.turns c.in-I32Load.is
+  stops = fails-ahead _ _ _ _ _ _ _ c.loop-x.invariant c.fetch.ensures.inside _ _ c.fetch.ensures.executes c.in-I32Load.is
       c.in-Err.trap (λ g leads. rw c.in-Err.is at (leads.0 c.load_i32.result (rw c.from-in-I32Load.ensures at c.load_i32.ensures))) _
       (rw c.paid.ensures at c.add_rest-in-Err.ensures);
 }
@@ -235,14 +236,14 @@ returns-in-Err c = record {
 pub returns-in-Err-compute_binary : goal.returns-in-Err-compute_binary
 returns-in-Err-compute_binary c =
     record {
-      stops = fails-ahead _ _ _ _ _ _ _ c.loop-x.invariant c.fetch.ensures.inside _ _ c.fetch.ensures.turns c.in-Binary.is
+      stops = fails-ahead _ _ _ _ _ _ _ c.loop-x.invariant c.fetch.ensures.inside _ _ c.fetch.ensures.executes c.in-Binary.is
           c.in-Err-compute_binary.trap (λ g leads. rw c.in-Err-compute_binary.is at (leads.0 c.compute_binary.result c.compute_binary.ensures)) _
           (rw c.paid-in-Err-compute_binary.ensures at c.add_rest-in-Err-compute_binary.ensures);
     }
 
 pub returns-in-Err-load_cell : goal.returns-in-Err-load_cell
 returns-in-Err-load_cell c = record {
-  stops = fails-ahead _ _ _ _ _ _ _ c.loop-x.invariant c.fetch.ensures.inside _ _ c.fetch.ensures.turns
+  stops = fails-ahead _ _ _ _ _ _ _ c.loop-x.invariant c.fetch.ensures.inside _ _ c.fetch.ensures.executes
       c.in-Load.is c.in-Err-load_cell.trap
       (λ g leads. rw c.in-Err-load_cell.is at (leads.0 c.load_cell.result (rw c.from-in-Load.ensures at c.load_cell.ensures))) _
       (rw c.paid-in-Err-load_cell.ensures at c.add_rest-in-Err-load_cell.ensures);
@@ -252,7 +253,7 @@ pub returns-in-Err-store_cell : goal.returns-in-Err-store_cell
 returns-in-Err-store_cell c =
     let (wanted, kept) = rw c.in-Err-store_cell.is at c.store_cell.ensures in
     record {
-      stops = rw kept (fails-ahead _ _ _ _ _ _ _ c.loop-x.invariant c.fetch.ensures.inside _ _ c.fetch.ensures.turns c.in-Store.is
+      stops = rw kept (fails-ahead _ _ _ _ _ _ _ c.loop-x.invariant c.fetch.ensures.inside _ _ c.fetch.ensures.executes c.in-Store.is
           c.in-Err-store_cell.trap (λ g leads. leads.0 (Err c.in-Err-store_cell.trap) (rw c.from-in-Store.ensures at wanted)) _
           (rw c.paid-in-Err-store_cell.ensures at c.add_rest-in-Err-store_cell.ensures));
     }
@@ -306,11 +307,11 @@ returns-in-Stops-transfer c = record {
 pub loop-x-preserved : goal.loop-x-preserved
 loop-x-preserved c = steps-ahead _ _ _ _ _ _ _ c.loop-x.invariant c.fetch.ensures.inside c.requires.sound c.step_other.new.state c.loop-x.memory _
     c.in-Some-step_other.to (c.in-Some-step_other.ensures c.loop-x.memory (rw c.in-Other.is at c.fetch.ensures.fits)
-    (rw c.in-Other.is at c.fetch.ensures.turns))
+    (rw c.in-Other.is at c.fetch.ensures.executes))
 
 pub returns-in-None : goal.returns-in-None
 returns-in-None c = record {
   stops = stops-before-ahead _ _ _ _ _ _ _ c.loop-x.invariant c.fetch.ensures.inside c.requires.sound _ _ _
-      (c.in-None.ensures c.loop-x.memory (rw c.in-Other.is at c.fetch.ensures.fits) (rw c.in-Other.is at c.fetch.ensures.turns)) _
+      (c.in-None.ensures c.loop-x.memory (rw c.in-Other.is at c.fetch.ensures.fits) (rw c.in-Other.is at c.fetch.ensures.executes)) _
       c.add_rest-in-None.ensures _ c.with_more-in-None.ensures;
 }

@@ -5,7 +5,7 @@ use Rattle.interpreter.proofs.Called.{by-name-fits, call-lacks, own-calls}
 use Rattle.interpreter.proofs.frames.call.Goals as goal
 
 pub returns-then-at-eq0 : goal.returns-then-at-eq0
-returns-then-at-eq0 c = call-lacks _ _ _ _ c.args.at.now c.args.kind _ c.requires.turns c.if-at-eq0.true
+returns-then-at-eq0 c = call-lacks _ _ _ _ c.args.at.now c.args.kind _ c.requires.executes c.if-at-eq0.true
 
 pub enter_function-requires-clause-calls : goal.enter_function-requires-clause-calls
 enter_function-requires-clause-calls c =
@@ -14,5 +14,5 @@ enter_function-requires-clause-calls c =
     let behind : c.args.index ≡ c.args.around.instance.now.imported + (c.args.index - c.args.around.instance.now.imported) = omega (arith, c.if-index-imported.false) in
     let function : ModuleFunction = record { ty = c.function-own.result.ty; func = c.function-own.result.func; flat = c.function-own.result.flat; instance = c.args.around.number } in
     own-calls _ (world_at c.args.around c.args.state.now c.args.memory.now) c.args.cells.now c.args.callers.now c.args.at.now c.args.kind c.args.index
-    c.requires.turns c.requires.sound function refl (c.args.index - c.args.around.instance.now.imported) behind inside
+    c.requires.executes c.requires.sound function refl (c.args.index - c.args.around.instance.now.imported) behind inside
     (rw c.as_ref.ensures at c.function-own.ensures.func) (rw c.as_ref.ensures at c.function-own.ensures.ty) (rw c.as_ref.ensures at c.function-own.ensures.flat) c.function-own.ensures.body

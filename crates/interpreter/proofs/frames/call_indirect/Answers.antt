@@ -4,16 +4,16 @@ use Rattle.interpreter.proofs.Called.{through-calls, through-fits, through-lacks
 use Rattle.interpreter.proofs.frames.call_indirect.Goals as goal
 
 pub returns-in_default : goal.returns-in_default
-returns-in_default c = through-lacks _ _ _ _ c.args.at.now c.args.kind _ c.requires.turns _ c.in_default.ensures.none
+returns-in_default c = through-lacks _ _ _ _ c.args.at.now c.args.kind _ c.requires.executes _ c.in_default.ensures.none
 
 pub find_through-requires-clause-refers : goal.find_through-requires-clause-refers
-find_through-requires-clause-refers c = through-refers _ _ _ _ c.args.at.now c.args.kind _ c.requires.turns _
+find_through-requires-clause-refers c = through-refers _ _ _ _ c.args.at.now c.args.kind _ c.requires.executes _
     (get_or_read _ _ _ (through-fits c.args.kind (world_at c.args.around c.args.state.now c.args.memory.now)
     (machine_at c.args.cells.now c.args.at.now) _ c.requires.fits).1 c.index-indices.ensures _) c.requires.sound
 
 pub enter_far-crossing-requires-clause-calls : goal.enter_far-crossing-requires-clause-calls
 enter_far-crossing-requires-clause-calls c =
-    through-calls _ _ _ _ c.args.at.now c.args.kind _ c.requires.turns _
+    through-calls _ _ _ _ c.args.at.now c.args.kind _ c.requires.executes _
     (get_or_read _ _ _ (through-fits c.args.kind (world_at c.args.around c.args.state.now c.args.memory.now)
     (machine_at c.args.cells.now c.args.at.now) _ c.requires.fits).1 c.index-indices.ensures _) c.requires.sound
     (through-fits c.args.kind (world_at c.args.around c.args.state.now c.args.memory.now) (machine_at c.args.cells.now c.args.at.now) _
@@ -21,7 +21,7 @@ enter_far-crossing-requires-clause-calls c =
 
 pub enter-requires-clause-calls : goal.enter-requires-clause-calls
 enter-requires-clause-calls c =
-    through-calls _ _ _ _ c.args.at.now c.args.kind _ c.requires.turns _
+    through-calls _ _ _ _ c.args.at.now c.args.kind _ c.requires.executes _
     (get_or_read _ _ _ (through-fits c.args.kind (world_at c.args.around c.args.state.now c.args.memory.now)
     (machine_at c.args.cells.now c.args.at.now) _ c.requires.fits).1 c.index-indices.ensures _) c.requires.sound
     (through-fits c.args.kind (world_at c.args.around c.args.state.now c.args.memory.now) (machine_at c.args.cells.now c.args.at.now) _
@@ -29,7 +29,7 @@ enter-requires-clause-calls c =
 
 pub returns-in-Err : goal.returns-in-Err
 returns-in-Err c =
-    through-traps _ _ _ _ c.args.at.now c.args.kind _ c.requires.turns _
+    through-traps _ _ _ _ c.args.at.now c.args.kind _ c.requires.executes _
     (get_or_read _ _ _ (through-fits c.args.kind (world_at c.args.around c.args.state.now c.args.memory.now)
     (machine_at c.args.cells.now c.args.at.now) _ c.requires.fits).1 c.index-indices.ensures _) c.in-Some.left c.in-Some.ensures.some
     c.in-Err.trap c.in-Err.ensures

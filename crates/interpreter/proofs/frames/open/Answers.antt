@@ -1,6 +1,6 @@
 use Rattle.std.proofs.Common.{◌≡◌, ◌∷◌, ◌+◌, ℕ, length, set, ap, arith, subst, sym, ◌∙◌}
 use Rattle.std.proofs.lemmas.List.{length-set}
-use Rattle.interpreter.specs.Crossing.{Crosses}
+use Rattle.interpreter.specs.Crossing.{ContinuesOrStops}
 use Rattle.interpreter.specs.Looping.{loop_at, world_at}
 use Rattle.interpreter.specs.declared.machine.Frame.{Frame}
 use Rattle.interpreter.specs.declared.machine.Position.{Position}
@@ -20,7 +20,7 @@ pub returns : goal.returns
 returns c =
     let waiting : ℕ → Frame = λ n. record { base = c.args.at.now.base; place = c.args.at.now.place + 1; instance = n } in
     let size : length (set c.args.cells.now c.args.from.top c.args.from.operand) ≡ length c.args.cells.now = length-set c.args.cells.now c.args.from.top c.args.from.operand in
-    subst (λ (p : Position). Crosses c.args.around.bound
+    subst (λ (p : Position). ContinuesOrStops c.args.around.bound
     (loop_at (world_at c.args.around c.args.state.now c.args.memory.now) c.args.cells.now c.args.callers.now c.args.at.now) c.cross.result
     c.args.why.now c.clear.new.cells c.push.new.self p) (sym c.cross.ensures.there)
     (crosses-in c.args.around.bound _ c.args.cells.now c.args.callers.now c.args.at.now c.requires.next c.args.from c.args.function.now

@@ -1,4 +1,5 @@
-use Rattle.isolation.proofs.Commands.{commands-keep, others-change-nothing, out-of-reach-changes-nothing}
+use Rattle.isolation.proofs.Commands.{commands-keep}
+use Rattle.isolation.proofs.Others.{others-change-nothing, out-of-reach-changes-nothing}
 use Rattle.isolation.specs.Hosts.{AnswersBy}
 use Rattle.isolation.proofs.laws.calls_are_isolated.Goals as goal
 

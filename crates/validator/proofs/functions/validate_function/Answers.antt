@@ -8,7 +8,7 @@ returns-clause-valid c =
     on_ok_weaker c.validate_body.result
     (
     function_valid c.args.decoded.now c.args.spaces.now c.requires.spaces c.requires.marks c.args.func.now c.in-Some.ty.now _ c.as_slice-types.ensures
-    c.as_slice.ensures c.len.ensures refl c.as_slice-2.ensures refl c.as_slice-3.ensures (sym (rw c.as_slice-types.ensures at c.in-Some.ensures))
+    c.as_slice.ensures c.len.ensures refl refl c.as_slice-2.ensures refl c.as_slice-3.ensures (sym (rw c.as_slice-types.ensures at c.in-Some.ensures))
     c.args.func.now.body
     refl
     ) c.validate_body.ensures.typed
@@ -23,6 +23,6 @@ returns-clause-invalid c =
     (
     λ fault untyped invalid.
     function_invalid c.args.decoded.now c.args.spaces.now c.requires.spaces c.requires.marks c.args.func.now c.in-Some.ty.now _
-    c.as_slice-types.ensures c.as_slice.ensures c.len.ensures refl c.as_slice-2.ensures refl c.as_slice-3.ensures there c.args.func.now.body refl
+    c.as_slice-types.ensures c.as_slice.ensures c.len.ensures refl refl c.as_slice-2.ensures refl c.as_slice-3.ensures there c.args.func.now.body refl
     (untyped invalid)
     ) c.validate_body.ensures.untyped

@@ -5,7 +5,7 @@ use Rattle.validator.proofs.instructions.apply_to_one.Goals as goal
 pub returns : goal.returns
 returns c = λ lent o type.
     let (given, takes, fits) = c.if-not-pop_one.ensures in
-    (type_steps o _ type refl refl takes fits c.in_ok-push.ensures.items, tt)
+    (type_steps o _ type refl refl takes fits c.in_ok-push.ensures, tt)
 
 pub returns-then-not-pop_one : goal.returns-then-not-pop_one
 returns-then-not-pop_one c = λ lent o type. (tt, λ invalid. type_refused o _ type c.if-not-pop_one.ensures)

@@ -9,9 +9,9 @@ use crate::context::BodyContext;
 use crate::control_frames::{ControlFrame, FrameKind, Stacks};
 use crate::errors::Fault;
 use crate::instructions::pop_operands;
-use crate::operands::{pop_types, push_types};
-use crate::types::{InstructionType, type_of_block};
-use core_types::{BlockType, are_same_types};
+use crate::operands::pop_types;
+use crate::types::{InstructionType, are_equal, type_of_block};
+use core_types::BlockType;
 use std::alloc::AllocError;
 use std::mem;
 
@@ -22,7 +22,7 @@ fn enter<'a>(stacks: &mut Stacks<'a>, frame: &ControlFrame<'a>) -> Result<(), Al
     let around = stacks.innermost;
     stacks.outer.push(around)?;
     stacks.innermost = *frame;
-    push_types(&mut stacks.operands, frame.start_types)
+    stacks.operands.push_types(frame.start_types)
 }
 
 // Returns whether the instruction of a frame takes an i32 above the operands of its body.
@@ -73,7 +73,7 @@ pub fn step_begin<'a>(
 // Pops the results of the innermost frame, which leaves none of its operands.
 pub fn finish(stacks: &mut Stacks<'_>) -> Result<(), Fault>
     ensures frames { SameFrames stacks.old stacks.new }
-    ensures operands { Finishes stacks.old stacks.new.operands.items result }
+    ensures operands { Finishes stacks.old stacks.new.operands result }
 {
     if !pop_types(
         &mut stacks.operands,
@@ -99,7 +99,7 @@ pub fn step_else(stacks: &mut Stacks<'_>) -> Result<(), Fault>
     finish(stacks)?;
     stacks.innermost.kind = FrameKind::Else;
     stacks.innermost.unreachable = false;
-    push_types(&mut stacks.operands, stacks.innermost.start_types)?;
+    stacks.operands.push_types(stacks.innermost.start_types)?;
     Ok(())
 }
 
@@ -108,7 +108,7 @@ fn needs_no_else(frame: &ControlFrame<'_>) -> bool
     ensures { IsTrue result ↔ FrameNeedsNoElse frame.now }
 {
     match frame.kind {
-        FrameKind::If => are_same_types(frame.start_types, frame.end_types),
+        FrameKind::If => are_equal(frame.start_types, frame.end_types),
         FrameKind::Function | FrameKind::Block | FrameKind::Loop | FrameKind::Else => true,
     }
 }
@@ -126,6 +126,6 @@ pub fn step_end(stacks: &mut Stacks<'_>) -> Result<(), Fault>
         return Err(Fault::Invalid);
     };
     let inner = mem::replace(&mut stacks.innermost, around);
-    push_types(&mut stacks.operands, inner.end_types)?;
+    stacks.operands.push_types(inner.end_types)?;
     Ok(())
 }

@@ -2,6 +2,7 @@ ghost use Rattle.std.specs.Bool.{OnFalse, OnTrue};
 ghost use Rattle.std.specs.Prelude.{All};
 ghost use Rattle.core_types.specs.declared.op.ControlOp.TheVariants as control;
 ghost use Rattle.core_types.specs.declared.op.PlainOp.TheVariants as plain;
+ghost use Rattle.meaning.specs.validation.Instructions.{known};
 ghost use Rattle.validator.specs.ControlFrames.{FitsLabelAt};
 ghost use Rattle.validator.specs.Steps.{StepsOver};
 
@@ -9,7 +10,7 @@ use crate::control_frames::{ControlFrame, Stacks, find_label, set_unreachable};
 use crate::errors::Fault;
 use crate::instructions::apply;
 use crate::operands::{all_fit, pop_fitting, pop_types, take_operands};
-use crate::types::takes_i32_gives;
+use crate::types::{are_equal, takes_i32_gives};
 use core_types::{BranchTable, OperandType, ValType};
 use std::alloc::Global;
 
@@ -62,6 +63,34 @@ fn fit_labels<'a>(
     true
 }
 
+// Returns whether operands of these types can be carried to each of the labels. A label equal to the previous one is not checked again.
+fn have_types<'a>(
+    types: &[ValType],
+    innermost: &ControlFrame<'a>,
+    outer: &[ControlFrame<'a>],
+    numbers: &[u32],
+) -> bool
+    ensures have { OnTrue result
+        (All (FitsLabelAt innermost.now outer.now (known types.now)) numbers.now) }
+    ensures refused { OnFalse result
+        (¬ All (FitsLabelAt innermost.now outer.now (known types.now)) numbers.now) }
+{
+    let mut fitting = None;
+    for index in numbers {
+        if fitting == Some(*index) {
+            continue;
+        }
+        let Some(found) = find_label(innermost, outer, *index) else {
+            return false;
+        };
+        if !are_equal(types, found) {
+            return false;
+        }
+        fitting = Some(*index);
+    }
+    true
+}
+
 // Steps over a branch to one of several labels.
 pub fn step_br_table(
     alloc: Global,
@@ -80,6 +109,18 @@ pub fn step_br_table(
     let Some(types) = find_label(&stacks.innermost, &stacks.outer, table.default) else {
         return Err(Fault::Invalid);
     };
+    if stacks.operands.ends_with(stacks.innermost.height, types) {
+        if !have_types(
+            types,
+            &stacks.innermost,
+            &stacks.outer,
+            table.labels.as_slice(),
+        ) {
+            return Err(Fault::Invalid);
+        }
+        set_unreachable(stacks);
+        return Ok(());
+    }
     let given = take_operands(alloc, &mut stacks.operands, &stacks.innermost, types.len())?;
     if !all_fit(&given, types) {
         return Err(Fault::Invalid);

@@ -9,8 +9,8 @@ use crate::control_frames::{Stacks, set_unreachable};
 use crate::errors::Fault;
 use crate::instructions::pop_operands;
 use crate::operands::pop_types;
-use crate::types::{InstructionType, takes_gives, takes_i32_gives};
-use core_types::{RefType, are_same_types, item};
+use crate::types::{InstructionType, are_equal, takes_gives, takes_i32_gives};
+use core_types::{RefType, item};
 
 pub fn type_of_call<'a>(context: &BodyContext<'a>, index: u32) -> Option<InstructionType<'a>>
     ensures { HasTypeOf context.now (plain.Control (control.Call index)) result }
@@ -59,7 +59,7 @@ pub fn step_tail_call(
     let Some(ty) = call else {
         return Err(Fault::Invalid);
     };
-    if !are_same_types(ty.results, context.results) {
+    if !are_equal(ty.results, context.results) {
         return Err(Fault::Invalid);
     }
     if !pop_operands(stacks, ty) {

@@ -9,7 +9,7 @@ use Rattle.validator.proofs.instructions.control.step_control.Goals as goal
 pub returns-in-Unreachable : goal.returns-in-Unreachable
 returns-in-Unreachable c =
     let old = c.args.stacks.now in
-    let taken = Takes-nothing old.innermost.unreachable old.innermost.height old.operands.items in
+    let taken = Takes-nothing old.innermost.unreachable old.innermost.height old.operands in
     rw c.in-Unreachable.is (
       stop_steps (Control Unreachable) [] c.set_unreachable.ensures.innermost c.set_unreachable.ensures.outer taken tt
           c.set_unreachable.ensures.operands (λ context described any to. tt),

@@ -12,7 +12,7 @@ use Rattle.validator.proofs.instructions.parametric.step_drop.Goals as goal
 pub returns-in-Some : goal.returns-in-Some
 returns-in-Some c = λ lent.
     let t = c.in-Some.field-0 in
-    let same = sym (append-nil c.pop.new.operands.items) in (
+    let same = sym (append-nil c.pop.new.operands) in (
       record {
         sound = rule_sound (Parametric DropOperand) (t ∷ []) [] refl refl c.in-Some.ensures.some (AllFit-same (t ∷ [])) same (λ context described. (t, refl, refl));
         complete = rule_complete (Parametric DropOperand) [] refl refl c.in-Some.ensures.some same

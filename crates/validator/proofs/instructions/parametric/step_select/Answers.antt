@@ -19,8 +19,8 @@ returns c = λ lent.
     let all = Takes-under _ _ _ (c.in-Some.second ∷ t ∷ []) _ (c.in-Some-pop.first ∷ []) _ pair c.in-Some-pop.ensures.some in (
       record {
         sound = rule_sound (Parametric Select) (chosen ∷ chosen ∷ Known I32 ∷ []) (chosen ∷ []) refl refl all (first, (second, (fit, tt)))
-            c.in_ok-push.ensures.items (λ context described. (chosen, numeric, refl, refl));
-        complete = rule_complete (Parametric Select) (chosen ∷ []) refl refl all c.in_ok-push.ensures.items
+            c.in_ok-push.ensures (λ context described. (chosen, numeric, refl, refl));
+        complete = rule_complete (Parametric Select) (chosen ∷ []) refl refl all c.in_ok-push.ensures
             (λ context described theirs others rule.
             let (u, numeric, operands, results) = rule in
             (sym (ap length operands), λ fit. let both = rw operands at fit in rw results (c.in-Some-joint.ensures.least u (numeric, both.0, both.1.0), tt)));

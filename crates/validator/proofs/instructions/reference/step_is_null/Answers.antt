@@ -16,8 +16,8 @@ returns c = λ lent.
     let (t, fit) = c.if-not-may_be_reference.ensures.fits in (
       record {
         sound = rule_sound (Reference IsNull) (Known (reference_type t) ∷ []) (Known I32 ∷ []) refl refl c.in-Some.ensures.some (fit, tt)
-            c.in_ok-push.ensures.items (λ context described. (t, (refl, refl)));
-        complete = rule_complete (Reference IsNull) (Known I32 ∷ []) refl refl c.in-Some.ensures.some c.in_ok-push.ensures.items
+            c.in_ok-push.ensures (λ context described. (t, (refl, refl)));
+        complete = rule_complete (Reference IsNull) (Known I32 ∷ []) refl refl c.in-Some.ensures.some c.in_ok-push.ensures
             (λ context described theirs others rule. let (t, (operands, results)) = rule in (sym (ap length operands), λ fit. rw results (AllFit-same (Known I32 ∷ []))));
       },
       tt,

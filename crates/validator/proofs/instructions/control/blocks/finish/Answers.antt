@@ -10,5 +10,5 @@ returns-then-len-stacks-clause-operands c = (
   tt,
   λ invalid.
       let (given, takes, fits) = c.if-not-pop_types.ensures in
-      NeverCloses-over {old = c.args.stacks.now} takes fits (λ e. c.if-len-stacks.true (c.len.ensures ∙ c.pop_types.new.operands.ok.0 ∙ e)),
+      NeverCloses-over {old = c.args.stacks.now} takes fits (λ e. c.if-len-stacks.true (c.len.ensures ∙ e)),
 )

@@ -19,7 +19,7 @@ returns c = λ o mark.
     let hand = subst (λ l. AllFit given (known l)) (mark_takes kind c.args.block o c.takes_condition.result ty.params.now mark c.takes_condition.ensures) fits in
     let after = c.in_ok-enter.ensures in
     let outer = after.outer ∙ ap (λ v. v.items ++ popped.innermost ∷ []) c.pop_operands.ensures.frames.outer ∙ ap (λ l. old.outer.items ++ l ∷ []) c.pop_operands.ensures.frames.innermost in (
-      begin_steps frame c.args.block o mark type takes hand (c.len-height.ensures ∙ popped.operands.ok.0) refl after.innermost
+      begin_steps frame c.args.block o mark type takes hand c.len-height.ensures refl after.innermost
           (reverse_push old.outer.items c.enter.new.stacks.outer.items old.innermost outer) after.operands,
       tt,
     )

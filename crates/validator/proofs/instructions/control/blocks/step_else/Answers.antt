@@ -11,7 +11,7 @@ use Rattle.validator.proofs.instructions.control.blocks.step_else.Goals as goal
 pub returns : goal.returns
 returns c = λ lent.
     let old = c.args.stacks.now in
-    let left = c.finish.new.stacks.operands.items in
+    let left = c.finish.new.stacks.operands in
     let finished = c.in_ok-finish.ensures in
     let closes = finished.operands.0 in (
       record {

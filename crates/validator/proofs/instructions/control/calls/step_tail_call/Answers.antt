@@ -12,20 +12,20 @@ returns c = λ call tail is found.
     let type = (rw c.in-Some.is at found) (map label_of (control_stack old)) in
     let stop = c.set_unreachable.ensures in
     let frames = c.pop_operands.ensures.frames in
-    let left = c.pop_operands.new.stacks.operands.items in (
+    let left = c.pop_operands.new.stacks.operands in (
       stop_steps (Control tail) _ (stop.innermost ∙ ap unreachable_from_here frames.innermost) (stop.outer ∙ frames.outer) takes fits
-          (stop.operands ∙ ap (λ l. take l.height left) frames.innermost) (tail_rule_of c.args.stacks.now is _ type (c.if-not-are_same_types.ensures.0 refl)),
+          (stop.operands ∙ ap (λ l. take l.height left) frames.innermost) (tail_rule_of c.args.stacks.now is _ type (c.if-not-are_equal.ensures.0 refl)),
       tt,
     )
 
 pub returns-in_default : goal.returns-in_default
 returns-in_default c = λ call tail is found. (tt, λ invalid. tail_missing c.args.stacks.now is ((rw c.in_default.is at found) (map label_of (control_stack c.args.stacks.now))))
 
-pub returns-then-not-are_same_types : goal.returns-then-not-are_same_types
-returns-then-not-are_same_types c = λ call tail is found. (
+pub returns-then-not-are_equal : goal.returns-then-not-are_equal
+returns-then-not-are_equal c = λ call tail is found. (
   tt,
   λ invalid.
-      tail_differs c.args.stacks.now is _ ((rw c.in-Some.is at found) (map label_of (control_stack c.args.stacks.now))) (λ same. let e = c.if-not-are_same_types.ensures.1 same in absurd cc),
+      tail_differs c.args.stacks.now is _ ((rw c.in-Some.is at found) (map label_of (control_stack c.args.stacks.now))) (λ same. let e = c.if-not-are_equal.ensures.1 same in absurd cc),
 )
 
 pub returns-then-not-pop_operands : goal.returns-then-not-pop_operands

@@ -1,0 +1,2 @@
+-- Lemmas on index spaces.
+pub mod IndexSpaces

@@ -1,0 +1,2 @@
+-- What each index of a module refers to.
+pub mod IndexSpaces
