@@ -99,7 +99,7 @@ static bool is_closed(tegvurn *embedding) {
          tegvurn_call(embedding, 0, tegvurn_string("empty"), NULL, 0, &value, 1, &count) == TEGVURN_STATUS_BUSY && count == 0 &&
          tegvurn_get_global(embedding, 0, tegvurn_string("number"), &value) == TEGVURN_STATUS_BUSY &&
          tegvurn_set_fuel(embedding, 7) == TEGVURN_STATUS_BUSY && tegvurn_fuel_left(embedding, &number) == TEGVURN_STATUS_BUSY &&
-         tegvurn_quota_left(embedding, &number) == TEGVURN_STATUS_BUSY &&
+         tegvurn_quota_left(embedding, &number) == TEGVURN_STATUS_BUSY && !tegvurn_explain(embedding, NULL, 0) &&
          tegvurn_exports(embedding, 0, &exports, &kept) == TEGVURN_STATUS_BUSY && kept == 7 &&
          tegvurn_find_export(embedding, 0, tegvurn_string("number"), &exports) == TEGVURN_STATUS_BUSY && !exports &&
          tegvurn_provide(embedding, tegvurn_string("env"), NULL, 0, NULL, 0, &number) == TEGVURN_STATUS_BUSY &&
@@ -810,6 +810,45 @@ static void test_texts(void) {
   tegvurn_free(embedding);
 }
 
+/* Whether the last call is explained with this text, whatever room there is for it. */
+static bool is_explained(tegvurn *embedding, const char *wanted) {
+  size_t length = strlen(wanted);
+  bool is_so = tegvurn_explain(embedding, NULL, 0) == length;
+  for (size_t size = 1; size < length + 3; size++) {
+    char text[256];
+    memset(text, 'x', sizeof text);
+    size_t kept = size <= length ? size - 1 : length;
+    is_so = is_so && tegvurn_explain(embedding, text, size) == length && !strncmp(text, wanted, kept) && !text[kept] && text[kept + 1] == 'x';
+  }
+  return is_so;
+}
+
+/* A call that was refused is explained until the next call. */
+static void test_explanations(void) {
+  struct asked asked = {NULL, NULL, NULL, 0};
+  tegvurn *embedding = embedding_of(&asked);
+  uint64_t number;
+  tegvurn_value value;
+  tegvurn_export *export;
+  CHECK(is_explained(embedding, ""));
+  CHECK(tegvurn_load(embedding, "\0asm\1\0\0", 7, &number) == TEGVURN_STATUS_REFUSED);
+  CHECK(is_explained(embedding, "malformed module: the version is not 1, at offset 0x7"));
+  CHECK(!strcmp(tegvurn_last(embedding)->text, "malformed module at byte 7"));
+  CHECK(tegvurn_fuel_left(embedding, &number) == TEGVURN_STATUS_DONE && is_explained(embedding, "malformed module at byte 7"));
+  CHECK(tegvurn_link(embedding, 9, &number) == TEGVURN_STATUS_REFUSED && is_explained(embedding, "there is no module of the number"));
+  CHECK(tegvurn_find_export(embedding, 7, tegvurn_string("f"), &export) == TEGVURN_STATUS_REFUSED);
+  CHECK(is_explained(embedding, "there is no instance of the number"));
+  CHECK(call_one(embedding, "ask", tegvurn_i64(1), &value) == TEGVURN_STATUS_REFUSED);
+  CHECK(is_explained(embedding, "argument 0: expected i32, found i64"));
+  CHECK(tegvurn_set_fuel(embedding, 0) == TEGVURN_STATUS_DONE && is_explained(embedding, ""));
+  CHECK(call_one(embedding, "byte", tegvurn_i32(0), &value) == TEGVURN_STATUS_EXHAUSTED && is_explained(embedding, ""));
+  CHECK(tegvurn_set_fuel(embedding, 1000) == TEGVURN_STATUS_DONE);
+  CHECK(tegvurn_load(embedding, NULL, 5, &number) == TEGVURN_STATUS_BAD_POINTER && is_explained(embedding, ""));
+  CHECK(tegvurn_load(embedding, test_module, sizeof test_module, &number) == TEGVURN_STATUS_DONE && is_explained(embedding, ""));
+  CHECK(tegvurn_free(embedding) == TEGVURN_STATUS_DONE);
+  CHECK(!tegvurn_explain(NULL, NULL, 0));
+}
+
 static double seconds(void) {
   struct timespec time;
   clock_gettime(CLOCK_MONOTONIC, &time);
@@ -831,6 +870,9 @@ static void test_too_large(void) {
     const tegvurn_end *end = tegvurn_last(embedding);
     CHECK(end->status == TEGVURN_STATUS_REFUSED && end->number == TEGVURN_REFUSAL_LIMIT && !strcmp(end->name, "Limit"));
     CHECK(end->place == TEGVURN_PLACE_NONE && end->at == 0 && end->code == 0 && !strcmp(end->text, "a limit is passed"));
+    char text[128], wanted[128];
+    sprintf(wanted, "module exceeds a limit: %zu bytes, and at most 67108864 are allowed", sizes[i]);
+    CHECK(tegvurn_explain(embedding, text, sizeof text) == strlen(wanted) && !strcmp(text, wanted));
   }
   munmap(bytes, sizes[1]);
   CHECK(tegvurn_free(embedding) == TEGVURN_STATUS_DONE);
@@ -1508,6 +1550,7 @@ int main(void) {
   test_calls_without_embedding();
   test_calls_without_pointers();
   test_texts();
+  test_explanations();
   test_too_large();
   test_long_messages();
   test_copies();

@@ -141,6 +141,7 @@ static void test_over(void) {
   CHECK(tegvurn_script(embedding, "", 0, NULL, 0, &report) == TEGVURN_STATUS_OVER);
   const tegvurn_end *end = tegvurn_last(embedding);
   CHECK(end->status == TEGVURN_STATUS_OVER && !end->number && !strcmp(end->text, "the embedding has ended"));
+  CHECK(!tegvurn_explain(embedding, NULL, 0));
   CHECK(tegvurn_free(embedding) == TEGVURN_STATUS_DONE);
 }
 

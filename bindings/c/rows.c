@@ -422,6 +422,12 @@ static void run_module_imports(void) {
   tegvurn_imports_free(imports);
 }
 
+static void run_explain(void) {
+  char text[LONGEST_LINE / 2];
+  if (tegvurn_explain(embedding, text, sizeof text) >= sizeof text) stop("too long an explanation", text);
+  say("%s", *text ? text : "nothing");
+}
+
 static void run_script(void) {
   tegvurn_file files[MOST_FILES];
   tegvurn_report report;
@@ -458,6 +464,7 @@ static const struct command {
     {"exports", 2, 2, run_exports},   {"script", 2, MOST_WORDS, run_script}, {"logged", 1, 1, run_logged},
     {"new_with_quota", 6, 6, run_new_with_quota}, {"quota_left", 1, 1, run_quota_left},
     {"module_exports", 2, 2, run_module_exports}, {"module_imports", 2, 2, run_module_imports},
+    {"explain", 1, 1, run_explain},
 };
 
 static size_t split_words(char *line, char *into[MOST_WORDS]) {

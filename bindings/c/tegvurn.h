@@ -280,6 +280,14 @@ TEGVURN_API tegvurn_status tegvurn_abandon(tegvurn *embedding);
    that share an embedding need a lock. For NULL it returns an end with `TEGVURN_STATUS_BAD_POINTER`. */
 TEGVURN_API const tegvurn_end *tegvurn_last(const tegvurn *embedding);
 
+/* Tells why the last call was refused, in more words than `tegvurn_last`: what was read and what was found, and where. Writes the text into
+   `text`, cut if it is longer than `size` bytes with a zero byte at its end, and returns the length of the whole text. `text` may be NULL
+   if `size` is 0. It may be called again, but no other call may come between: after one that only reads, the text is that of
+   `tegvurn_last`. If the last call was not refused, the text is empty, and so it is if another call of the embedding runs. Names in the
+   text are escaped, and it has no line break. A module is read anew for it, so this may take several times as long as the call that was
+   refused. */
+TEGVURN_API size_t tegvurn_explain(tegvurn *embedding, char *text, size_t size);
+
 /* Returns the version of the library, as "0.1.0". Any thread and any signal handler may call it. */
 TEGVURN_API const char *tegvurn_version(void);
 

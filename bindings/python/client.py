@@ -48,6 +48,7 @@ ORDERS = {
     "quota_left": ("", "number"),
     "module_imports": ("number", "imports"),
     "module_exports": ("number", "exports"),
+    "explain": ("", "text"),
 }
 # The replies and the requests for host functions, in the order of their numbers, and the answers to these requests.
 REPLIES = [
@@ -64,6 +65,7 @@ REPLIES = [
     "call",
     "lent",
     "imports",
+    "text",
 ]
 ANSWERS = {"results": 20, "trap": 21, "read": 22, "put": 23}
 REFUSALS = {
@@ -316,6 +318,7 @@ READERS = {
     "report": read_report,
     "call": read_call,
     "lent": lambda fields: [fields.take(fields.left())],
+    "text": lambda fields: [fields.text(fields.left())],
 }
 
 

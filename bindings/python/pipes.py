@@ -37,7 +37,7 @@ def show_reply(name, *fields):
         return rows.show_list(f"{export}:{rows.show_type(*type_)}" for export, type_ in fields)
     if name == "imports":
         return rows.show_list(f"{module}.{name}:{rows.show_type(*type_)}" for module, name, type_ in fields)
-    if name == "number":
+    if name in ("number", "text"):
         return str(fields[0])
     return " ".join(map(str, (name, *(fields[:3] if name == "refused" else fields))))
 
@@ -75,6 +75,9 @@ class Embedding:
 
     def quota_left(self):
         return self.order("quota_left")
+
+    def explain(self):
+        return self.order("explain")
 
     def exports(self, instance):
         """Returns the exports in the format of the rows. If one differs when it is requested by its name, returns that reply instead."""

@@ -26,7 +26,7 @@ def read_rows():
         for number, line in enumerate(file, 1):
             words = line.split(" -> ")[0].split()
             if " -> " in line and words[0] != "#":
-                rows.append(Row(number, words, line.split(" -> ")[1].strip()))
+                rows.append(Row(number, words, line.split(" -> ", 1)[1].strip()))
             elif words and words[0] == "module":
                 modules[words[1]] = bytes.fromhex(words[2])
     return modules, rows

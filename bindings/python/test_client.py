@@ -61,7 +61,7 @@ def order(name, *fields):
     return message(client.NUMBERS[name], *fields)
 
 
-END, LEFT = order("end"), order("fuel_left")
+END, LEFT, EXPLAIN = order("end"), order("fuel_left"), order("explain")
 BEGIN = order("begin", *SETUP)
 DEFINE_COUNT = order("define", "env", "count", [], ["i32"])
 DEFINED = b"".join(order("define", host.module, host.name, host.parameters, host.results) for host in rows.StandardHosts().all())
@@ -125,7 +125,7 @@ def test_times(tests):
     """Orders that are sent out of turn get the reply `not now`."""
     late = [order("load", b""), order("link", 0), order("register", 0, b"m"), order("call", 0, "f"), order("get_global", 0, b"g")]
     late += [order("set_fuel", 1), LEFT, order("exports", 0), order("export", 0, b"f"), order("file", "a", b""), order("script", b"{}")]
-    late += [order("quota_left"), order("module_imports", 0), order("module_exports", 0)]
+    late += [order("quota_left"), order("module_imports", 0), order("module_exports", 0), order("explain")]
     not_now = [("not_now",)] * len(late)
     check(tests, "orders before `begin`", b"".join(late) + BEGUN + LEFT + END, not_now + ANSWERED + [LEFT_AT_FIRST, ("done",)], 0)
     early = [BEGIN, DEFINE_COUNT, order("begin", 1, 0, 1, 1), order("quota", 0)]
@@ -163,7 +163,7 @@ UNSPELT = [
     (11, "m", 1, b"\xff", [], []),
     (12,), (12, 1, 1, 1), (12, 1, 1, 1, 1, 1), (12, bytes(31)),
     (13,), (13, bytes(7)), (13, 0, b"\xff"), (13, 0, b"\xc0\x80"), (13, 0, b"a\xe2\x82"),
-    (14, bytes(7)), (14, 0, 0), (15, 0), (15, b"a"), (16,), (16, 0, 0), (17,), (17, bytes(7)), (18,), (18, 0),
+    (14, bytes(7)), (14, 0, 0), (15, 0), (15, b"a"), (16,), (16, 0, 0), (17,), (17, bytes(7)), (19,), (18, 0),
 ]
 
 
@@ -492,17 +492,18 @@ def false_server(script, reply=b"", **limits):
             conversation.close()
 
 
-NUMBER, VALUES, TRAP, EXHAUSTED, REFUSED, EXPORTS, REPORT, CALL, LENT, IMPORTS = 1, 2, 3, 4, 5, 6, 7, 10, 11, 12
+NUMBER, VALUES, TRAP, EXHAUSTED, REFUSED, EXPORTS, REPORT, CALL, LENT, IMPORTS, TEXT = 1, 2, 3, 4, 5, 6, 7, 10, 11, 12, 13
 NOTHING = (0, [], [])  # the type of a function
 # Orders, by name and fields, and messages that are not replies to them.
 BROKEN_REPLIES = {
     ("fuel_left",): [
-        (13,), (2**32, 5), (0,), (LENT, 5), (IMPORTS, 0), (NUMBER,), (NUMBER, bytes(7)), (NUMBER, bytes(9)), (NUMBER, 0, 0), (VALUES, ("i32", 0)),
+        (14,), (2**32, 5), (0,), (LENT, 5), (IMPORTS, 0), (NUMBER,), (NUMBER, bytes(7)), (NUMBER, bytes(9)), (NUMBER, 0, 0), (VALUES, ("i32", 0)),
         (CALL, 0, 0), (8, 0), (9, b"a"),
     ],
     ("set_fuel", 1): [(0, 0), (NUMBER, 0)],
     ("quota", 1): [(0, 0), (NUMBER, 0)],
-    ("quota_left",): [(0,), (NUMBER,), (VALUES,)],
+    ("quota_left",): [(0,), (NUMBER,), (VALUES,), (TEXT,)],
+    ("explain",): [(0,), (NUMBER, 0), (TEXT, b"\xff")],
     ("load", b""): [(TRAP, 1, 0)],
     ("link", 0): [
         (VALUES,), (REFUSED, 0, 0, 0), (REFUSED, 18, 0, 0), (REFUSED, 65, 0, 0), (REFUSED, 5, 6, 0), (REFUSED, 5, 0, 1), (REFUSED, 5, 0),
@@ -793,6 +794,18 @@ def test_memory(tests):
     check(tests, "memories of 4 GiB", large + order("load", GREATEST_MEMORY) + order("link", 0) + grow + END, given, 0)
 
 
+def test_explanations(tests):
+    """`explain` says why the order before was refused, as often as it is asked."""
+    text = ("text", "there is no module of the number")
+    refused = [("refused", 5, 0, 0), text, text, LEFT_AT_FIRST, ("not_now",), ("done",)]
+    check(tests, "a refused order", BEGUN + order("link", 5) + EXPLAIN * 2 + LEFT + EXPLAIN + END, ANSWERED + refused, 0)
+    check(tests, "nothing was refused", BEGUN + EXPLAIN + END, ANSWERED + [("not_now",), ("done",)], 0)
+    with_field = message(client.NUMBERS["explain"], b"\0")
+    check(tests, "an order to explain with a field", BEGUN + with_field + END, ANSWERED + [("not_spelt",), ("done",)], 0)
+    scripts = [("refused", 15, 0, 0), ("text", "not JSON, or nested more than 127 levels deep"), ("done",)]
+    check(tests, "a refused script", BEGUN + order("script", b"") + EXPLAIN + END, ANSWERED + scripts, 0)
+
+
 def spell_leb(number):
     """Returns the unsigned LEB128 encoding of a number in five bytes."""
     return bytes([number >> 7 * k & 0x7F | 0x80 for k in range(4)] + [number >> 28])
@@ -811,6 +824,8 @@ def test_large_messages(tests):
     largest, larger = order("load", module_of(MOST_BYTES)), order("load", module_of(MOST_BYTES + 1))
     check(tests, "the largest module", BEGIN + largest + END, [("done",), ("number", 0), ("done",)], 0)
     check(tests, "a module that is too large", BEGIN + larger + END, [("done",), ("refused", 3, 0, 0), ("done",)], 0)
+    text = ("text", f"module exceeds a limit: {2**26 + 1} bytes, and at most {2**26} are allowed")
+    check(tests, "why it is refused", BEGIN + larger + EXPLAIN + END, [("done",), ("refused", 3, 0, 0), text, ("done",)], 0)
 
 
 def test_message_without_memory(tests):

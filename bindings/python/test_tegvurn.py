@@ -77,11 +77,14 @@ def answered(function, *args):
     try:
         return str(function(*args))
     except tegvurn.Error as error:
+        Embedding.explained = str(error)
         return show_error(error)
 
 
 class Embedding:
     """An embedding that runs rows, in this process."""
+
+    explained = "nothing"  # why the last row that was refused was
 
     def __init__(self, embedding):
         self.embedding, self.close = embedding, embedding.close
@@ -120,6 +123,9 @@ class Embedding:
 
     def quota_left(self):
         return str(self.embedding.quota_left)
+
+    def explain(self):
+        return self.explained
 
     def show_exports(self, instance):
         """Returns the exports in the format of the rows."""
@@ -501,8 +507,18 @@ def test_errors(tests):
     """Exceptions have the right fields and texts, and numbers that are out of range raise them."""
     with tegvurn.Embedding(fuel=10) as embedding:
         error = raised_by(embedding.load, MODULES["seven_bytes"])
-        found = (type(error), error.number, error.name, error.place, error.at, str(error))
+        found = (type(error), error.number, error.name, error.place, error.at, error.text)
         tests.equal(found, (tegvurn.Refused, 1, "Malformed", "byte", 7, "malformed module at byte 7"), "a module that is malformed")
+        tests.equal(str(error), "malformed module: the version is not 1, at offset 0x7", "why a module is malformed")
+        error = raised_by(embedding.load, MODULES["seven_bytes"] + bytes(2**26))
+        text = "module exceeds a limit: 67108871 bytes, and at most 67108864 are allowed"
+        tests.equal((error.text, str(error)), ("a limit is passed", text), "why a module is too large")
+        named = rows.section(7, [bytes([200, 1]) + b"n" * 200 + b"\0\7"])
+        error = raised_by(embedding.load, b"\0asm\1\0\0\0" + named)
+        text = f'invalid module: export 0 ("{"n" * 80}"): function 7 is not there, and there are 0'
+        tests.equal(str(error), text, "why a module of a long name is invalid")
+        error = raised_by(embedding.load, rows.exports_of_one_function([b"\xd7\x90" * 63] * 8))
+        tests.equal(str(error), 'invalid module: export 1 ("' + "\u05d0" * 63 + '"): duplicate name', "an explanation beyond ASCII")
         instance = embedding.link(embedding.load(MODULES["traps"]))
         error = raised_by(embedding.call, instance, "div_s", 1, 0)
         found = (type(error), error.number, error.name, error.code, str(error))
@@ -630,7 +646,7 @@ def test_find_export(tests):
             tests.equal(show_error(error), f"refused {number} 0 0", f"the export {name!r} of the instance {instance}")
             error = raised_by(embedding.call, instance, name, None)
             tests.equal(show_error(error), f"refused {number} 0 0", f"a call of the export {name!r} of the instance {instance}")
-        tests.equal(str(error), "nothing is exported under the name", "the text of an unknown export")
+        tests.equal(error.text, "nothing is exported under the name", "the text of an unknown export")
         embedding.call(0, "grow")
         tests.equal(embedding.find_export(0, "memory"), tegvurn.MemoryType(3, 5), "a memory after it has grown")
 
@@ -982,7 +998,7 @@ def test_windows(tests):
     with tegvurn.Embedding() as embedding:
         instance = embedding.link(embedding.load(MODULES["upper"]))
         error = raised_by(tegvurn.Window, embedding, instance)
-        tests.equal((show_error(error), str(error)), ("refused 6 2 1", "import 1 is unknown"), "a window that the embedding does not allow")
+        tests.equal((show_error(error), error.text), ("refused 6 2 1", "import 1 is unknown"), "a window that the embedding does not allow")
 
 
 # Functions of the header that the package does not need. It never leaves a callback, and an embedding without a quota has the largest one.

@@ -72,6 +72,8 @@ _NO_QUOTA = 2**64 - 1  # the quota of an embedding without one
 _RAISED = 2**32 - 1
 # The most functions whose types an embedding keeps. With 1,000 parameters and 1,000 results each, they take 17 MB.
 _MOST_KEPT = 1_024
+# The room for an explanation at first. Most fit.
+_ROOM = 512
 
 
 def _bounded(number, bits):
@@ -174,11 +176,12 @@ class Refused(Error):
     """A call was refused. Nothing has changed, except that some commands of a refused script may have run.
 
     `number` is one of `RefusalNumber`. `place` is a kind of place, one of `PLACES`, or None. `at` is which place of that kind, from 0.
+    `text` describes the refusal in a few words. `str` of the exception says more: what was read and what was found, and where.
     """
 
-    def __init__(self, text, number, name, place, at):
-        super().__init__(text, number, name)
-        self.place, self.at = place, at
+    def __init__(self, text, number, name, place, at, explanation=""):
+        super().__init__(explanation or text, number, name)
+        self.text, self.place, self.at = text, place, at
 
 
 class Trap(Error):
@@ -413,6 +416,7 @@ _FUNCTIONS = {
     "new_with_quota": [ctypes.POINTER(_Config), _U64, ctypes.POINTER(_Host), _SIZE, ctypes.POINTER(_AT), ctypes.POINTER(_End)],
     "free": [_AT],
     "last": [_AT],
+    "explain": [_AT, ctypes.c_char_p, _SIZE],
     "load": [_AT, ctypes.c_char_p, _SIZE, ctypes.POINTER(_U64)],
     "link": [_AT, _U64, ctypes.POINTER(_U64)],
     "register": [_AT, _U64, _Text],
@@ -434,7 +438,7 @@ _FUNCTIONS = {
     "window_write": [_AT, _U64, _U64, ctypes.c_char_p, _SIZE],
     "script": [_AT, ctypes.c_char_p, _SIZE, ctypes.POINTER(_File), _SIZE, ctypes.POINTER(_Report)],
 }
-_GIVEN = {"last": ctypes.POINTER(_End), "exports_free": None, "imports_free": None, "window_host": _Host}
+_GIVEN = {"last": ctypes.POINTER(_End), "explain": _SIZE, "exports_free": None, "imports_free": None, "window_host": _Host}
 
 
 class _Library:
@@ -614,14 +618,14 @@ def _read_report(report):
     return Report(report.passed, report.failed, report.skipped, [report.failed_lines[k] for k in range(report.failed)])
 
 
-def _error(status, end):
-    """Returns the exception for a status. The library has written how the call ended at `end`."""
+def _error(status, end, explain=lambda: ""):
+    """Returns the exception for a status. The library has written how the call ended at `end`. `explain` returns why it was refused."""
     if status in _PLAIN_TEXTS or not end:
         return _plain_error(status)
     end = end.contents
     name, text = (end.name or b"").decode(), end.text.decode(errors="replace")
     if status == _REFUSED:
-        return Refused(text, end.number, name, _PLACES[end.place] if end.place < len(_PLACES) else None, end.at)
+        return Refused(text, end.number, name, _PLACES[end.place] if end.place < len(_PLACES) else None, end.at, explain())
     if status == _TRAP:
         return Trap(text, end.number, name, end.code)
     return (Exhausted if status == _EXHAUSTED else Error)(text, end.number, name)
@@ -842,8 +846,17 @@ class Embedding(_Unique):
             if self._raised:
                 raise self._raised.pop()
             if status != _DONE:
-                raise _error(status, self._library.last(self._at))
+                raise _error(status, self._library.last(self._at), self._explain)
             return read()
+
+    def _explain(self):
+        """Returns why the last call was refused."""
+        text = ctypes.create_string_buffer(_ROOM)
+        size = self._library.explain(self._at, text, _ROOM)
+        if size >= _ROOM:
+            text = ctypes.create_string_buffer(size + 1)
+            self._library.explain(self._at, text, size + 1)
+        return text.value.decode(errors="replace")
 
     def _function(self, instance, name):
         """Returns the name of an export for the library, and its type. The type of an export that is not a function is empty here.

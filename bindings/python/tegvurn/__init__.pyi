@@ -88,9 +88,12 @@ class Error(Exception):
     def __init__(self, text: str, number: int = 0, name: str = "") -> None: ...
 
 class Refused(Error):
+    text: str
     place: str | None
     at: int
-    def __init__(self, text: str, number: int, name: str, place: str | None, at: int) -> None: ...
+    def __init__(
+        self, text: str, number: int, name: str, place: str | None, at: int, explanation: str = ""
+    ) -> None: ...
 
 class Trap(Error):
     code: int

@@ -50,6 +50,9 @@ pub struct Refusal {
     pub place: Option<Place>,
     /// A description of the refusal, such as `malformed module at byte 11`.
     pub text: String,
+    /// What was read and what was found, and where, such as
+    /// `malformed module: expected a value type, found 0x40 in type 1, at offset 0x10`. It is empty if there is no more to say.
+    pub explanation: String,
 }
 
 /// Why a call was refused.
@@ -313,7 +316,8 @@ impl Display for Exhaustion {
 impl Display for Error {
     fn fmt(&self, f: &mut Formatter<'_>) -> fmt::Result {
         match self {
-            Error::Refused(refusal) => f.write_str(&refusal.text),
+            Error::Refused(refusal) if refusal.explanation.is_empty() => f.write_str(&refusal.text),
+            Error::Refused(refusal) => f.write_str(&refusal.explanation),
             Error::Trap(trap) => Display::fmt(trap, f),
             Error::Exhausted(what) => write!(f, "out of {what}"),
             Error::LinkTrap(trap @ (Trap::MemoryBounds | Trap::TableBounds)) => {

@@ -502,6 +502,9 @@ fn refusals_say_where() {
                 (Cause::Malformed, Some(Place::Byte(7)))
             );
             assert_eq!(refusal.text, "malformed module at byte 7");
+            let explanation = "malformed module: the version is not 1, at offset 0x7";
+            assert_eq!(refusal.explanation, explanation);
+            assert_eq!(Error::Refused(refusal).to_string(), explanation);
         }
         other => panic!("{other:?}"),
     }

@@ -1,5 +1,6 @@
 //! Runs each row of `bindings/rows.txt`, which all libraries share. The head of that file describes the format of rows.
 
+use std::cell::RefCell;
 use std::collections::HashMap;
 use std::fmt::Write;
 use tegvurn::{
@@ -89,7 +90,13 @@ fn say_refusal(refusal: Refusal) -> String {
     format!("refused {} {place} {which}", refusal.cause.number())
 }
 
+thread_local! {
+    // Why the last row that was refused was.
+    static EXPLAINED: RefCell<String> = const { RefCell::new(String::new()) };
+}
+
 fn say_error(error: Error) -> String {
+    EXPLAINED.with(|text| text.replace(error.to_string()));
     match error {
         Error::Refused(refusal) => say_refusal(refusal),
         Error::Trap(trap) | Error::LinkTrap(trap) => {
@@ -263,6 +270,7 @@ fn unknown_module() -> Error {
         cause: Cause::UnknownModule,
         place: None,
         text: "there is no handle".to_owned(),
+        explanation: String::new(),
     })
 }
 
@@ -445,6 +453,7 @@ impl Rows {
             }
             "fuel" => say(self.store().set_fuel(number(words[1])), done),
             "left" => say(self.store().get_fuel(), |fuel| fuel.to_string()),
+            "explain" => EXPLAINED.with(|text| text.borrow().clone()),
             "quota_left" => say(self.store().quota_left(), |bytes| bytes.to_string()),
             "exports" => self.exports(words[1]),
             "module_imports" => self.module_imports(words[1]),

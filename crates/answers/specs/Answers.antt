@@ -1,5 +1,5 @@
 -- How messages encode the answers of a server. The encoding is specific to this project.
-use Rattle.std.specs.Prelude.{ℕ, List, [], ◌++◌, flat_map}
+use Rattle.std.specs.Prelude.{ℕ, List, [], ◌++◌, flat_map, string_bytes}
 use Rattle.core_types.specs.declared.outcome.Exhaustion.{Exhaustion}
 use Rattle.core_types.specs.declared.outcome.Exhaustion.TheVariants.{Fuel, Depth, Memory}
 use Rattle.core_types.specs.declared.outcome.Trap.{Trap as Trapped}
@@ -12,7 +12,7 @@ use Rattle.scripts.specs.declared.report.Report.{Report}
 use Rattle.answers.specs.Causes.{cause_number, place_of}
 use Rattle.answers.specs.Exports.{exports_bytes, imports_bytes}
 use Rattle.answers.specs.declared.answer.Answer.{Answer}
-use Rattle.answers.specs.declared.answer.Answer.TheVariants.{Done, Applied, Global, FuelLeft, QuotaLeft, Exports, Imports, Ran, Refused, NotSpelt, NotNow}
+use Rattle.answers.specs.declared.answer.Answer.TheVariants.{Done, Applied, Global, FuelLeft, QuotaLeft, Exports, Imports, Ran, Text, Refused, NotSpelt, NotNow}
 use Rattle.answers.specs.declared.causes.Cause.{Cause}
 use Rattle.answers.specs.declared.causes.Cause.TheVariants.{Command}
 
@@ -59,6 +59,7 @@ kind_of (Ran report) = 7
 kind_of NotSpelt = 8
 kind_of NotNow = 9
 kind_of (Imports imports) = 12
+kind_of (Text text) = 13
 
 -- The number, the kind of place and the place of a refusal.
 abbrev pub cause_numbers : Cause → List ℕ
@@ -95,5 +96,6 @@ fields_of (Refused cause) words = cause_bytes cause words
 fields_of (Exports exports) words = exports_bytes exports
 fields_of (Imports imports) words = imports_bytes imports
 fields_of (Ran report) words = report_bytes report
+fields_of (Text text) words = string_bytes text
 fields_of NotSpelt words = []
 fields_of NotNow words = []

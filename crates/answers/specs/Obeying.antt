@@ -83,7 +83,7 @@ module _ {I : Type 0} {F : I → Type 0} (members : (i : I) → Ghosts (F i)) wh
   RunsText files text old answer new = ⊥
 
   -- A command is applied once, as the embedding machine applies it, and goes well. Other orders except scripts change nothing. Orders
-  -- that come too late get the answer `NotNow`.
+  -- that come too late get the answer `NotNow`, and so does an order to explain the one before, which is not known here.
   abbrev pub Obeys : List (String Allocator × Vec ℕ Allocator) → Embedding (HostObject I F)
       → order.Order → Answer → Embedding (HostObject I F) → Type 0
   Obeys files old (order.Apply command) answer new = (reply : machine.Reply)
@@ -106,3 +106,4 @@ module _ {I : Type 0} {F : I → Type 0} (members : (i : I) → Ghosts (F i)) wh
       ListsModuleImports old number answer × (new ≡ old)
   Obeys files old (order.ModuleExports number) answer new =
       ListsModuleExports old number answer × (new ≡ old)
+  Obeys files old order.Explain answer new = (answer ≡ NotNow) × (new ≡ old)

@@ -22,10 +22,12 @@ pub enum Answer {
     Imports(Imports),
     /// The result of a script.
     Ran(Report),
+    /// Why an order was refused, as a text.
+    Text(String),
     /// The order is refused.
     Refused(Cause),
     /// The message encodes no order.
     NotSpelt,
-    /// The order is not allowed at this time: before `begin`, or after it.
+    /// The order is not allowed at this time: before `begin`, or after it, or to explain an order that was not refused.
     NotNow,
 }

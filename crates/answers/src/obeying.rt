@@ -105,7 +105,8 @@ fn list_module_exports(embedding: &Embedding, number: u64) -> Answer
     }
 }
 
-/// Obeys an order, and returns the answer. `files` are those of the next script, which takes them all.
+/// Obeys an order, and returns the answer. `files` are those of the next script, which takes them all. An order to explain the one
+/// before is answered by `explain`, and not here.
 pub fn obey(
     alloc: Global,
     embedding: &mut Embedding,
@@ -156,6 +157,6 @@ pub fn obey(
         Order::QuotaLeft => Answer::QuotaLeft(embedding.quota_left()),
         Order::ModuleImports(number) => list_module_imports(embedding, *number),
         Order::ModuleExports(number) => list_module_exports(embedding, *number),
-        Order::Define(..) | Order::Begin(..) | Order::Quota(_) => Answer::NotNow,
+        Order::Define(..) | Order::Begin(..) | Order::Quota(_) | Order::Explain => Answer::NotNow,
     }
 }

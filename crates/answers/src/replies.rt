@@ -131,6 +131,7 @@ fn push_fields(alloc: Global, out: &mut Vec<u8>, answer: &Answer) -> Result<(), 
         Answer::Exports(exports) => push_exports(out, exports),
         Answer::Imports(imports) => push_imports(out, imports),
         Answer::Ran(report) => push_report(out, report),
+        Answer::Text(text) => out.extend_from_slice(text.as_bytes()),
         Answer::Refused(cause) => push_cause(alloc, out, cause),
     }
 }
@@ -164,6 +165,7 @@ fn kind_of_answer(answer: &Answer) -> u64
         Answer::NotSpelt => 8,
         Answer::NotNow => 9,
         Answer::Imports(_) => 12,
+        Answer::Text(_) => 13,
     }
 }
 

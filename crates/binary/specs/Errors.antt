@@ -1,8 +1,6 @@
 -- What an error states.
 use Rattle.std.specs.Prelude.{ℕ, List, Result, Ok, Err}
 use Rattle.core_types.specs.declared.module.Module.{Module}
-use Rattle.meaning.specs.embedding.Commands as refusal
-use Rattle.meaning.specs.embedding.Refusals.{number_of}
 use Rattle.meaning.specs.binary.Limits.{IsWithinLimits}
 use Rattle.meaning.specs.binary.Modules.{SpellsModule}
 use Rattle.binary.specs.declared.errors.DecodeError.{DecodeError}
@@ -22,10 +20,3 @@ IfRefused (Err error) fact = OnRefused error fact
 -- The bytes encode no module that is within the limits.
 abbrev pub IsNoModule : List ℕ → Type 0
 IsNoModule bytes = (m : Module) → SpellsModule bytes m → IsWithinLimits bytes m → ⊥
-
--- The number of the refusal.
-abbrev pub decode_number : DecodeError → ℕ
-decode_number (Malformed offset) = number_of refusal.Malformed
-decode_number (Unsupported offset) = number_of refusal.Unsupported
-decode_number Limit = number_of refusal.Limit
-decode_number OutOfMemory = number_of refusal.OutOfMemory

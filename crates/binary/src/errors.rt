@@ -20,23 +20,6 @@ pub enum DecodeError {
     OutOfMemory,
 }
 
-impl DecodeError {
-    ghost use Rattle.std.specs.Prelude.{◌≡◌};
-    ghost use Rattle.binary.specs.Errors.{decode_number};
-
-    /// Returns the number of the refusal: 1, 2 or 3, and 13 for out of memory.
-    pub fn number(&self) -> u8
-        ensures { result ≡ decode_number self.now }
-    {
-        match self {
-            DecodeError::Malformed(_) => 1,
-            DecodeError::Unsupported(_) => 2,
-            DecodeError::Limit => 3,
-            DecodeError::OutOfMemory => 13,
-        }
-    }
-}
-
 impl From<AllocError> for DecodeError {
     ghost use Rattle.std.specs.Prelude.{◌≡◌};
     ghost use Rattle.binary.specs.declared.errors.DecodeError.TheVariants.{OutOfMemory};

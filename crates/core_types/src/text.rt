@@ -24,14 +24,6 @@ impl Name {
         Name { text }
     }
 
-    /// Returns the text as a string. Allocates nothing.
-    pub fn into_string(self) -> String
-        ensures { string_bytes result ≡ self }
-    {
-        let Name { text } = self;
-        text
-    }
-
     /// Returns the text as a slice.
     pub fn as_str(&self) -> &str
         ensures { result.now ≡ self.now }

@@ -1,5 +1,6 @@
 //! An embedding, its queries that are not commands, and its operations.
 
+mod explanations;
 mod modules;
 mod operations;
 

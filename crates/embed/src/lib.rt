@@ -5,6 +5,7 @@ mod commands;
 mod config;
 mod definitions;
 mod embedding;
+mod explanations;
 mod host_calls;
 mod host_definitions;
 mod imports;
@@ -23,6 +24,7 @@ pub use core_types::{
 };
 pub use embedding::Embedding;
 pub use exec::Outcome;
+pub use explanations::{explain_load, explain_module};
 pub use host_calls::{bytes_at, func_type, no_results, one_result, put_bytes};
 pub use host_definitions::HostDef;
 pub use hostfunc::{HostFault, HostFn};

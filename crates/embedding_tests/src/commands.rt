@@ -1,6 +1,7 @@
 //! Sequences of commands, and their replies.
 
 use crate::engines::{Asked, want_memory};
+use crate::explanations::step_is_explained;
 use core_types::{Exhaustion, Trap, Val};
 use embed::{Config, Embedding, InstanceNumber, LinkOutcome, ModuleNumber, Place, Refusal, Reply};
 use std::alloc::Global;
@@ -37,10 +38,13 @@ pub enum Step {
     GetGlobal(u64, &'static str, Answer),
     SetFuel(u64),
     Left(u64),
+    // A step that is refused, and the text that explains why.
+    Explained(&'static Step, &'static str),
 }
 
 use Step::{
-    Call, GetGlobal, Left, Link, LinkOthers, LinkTimes, Load, LoadBytes, Register, SetFuel,
+    Call, Explained, GetGlobal, Left, Link, LinkOthers, LinkTimes, Load, LoadBytes, Register,
+    SetFuel,
 };
 
 // Steps in a row, in a fresh embedding.
@@ -183,7 +187,7 @@ fn command_in(step: Step) -> Option<(Asked, Answer)> {
         Call(_, _, _, wanted) => Some((Asked::Call, wanted)),
         GetGlobal(_, _, wanted) => Some((Asked::GetGlobal, wanted)),
         SetFuel(_) => Some((Asked::SetFuel, Done)),
-        LinkTimes(..) | LinkOthers(..) | Left(_) => None,
+        LinkTimes(..) | LinkOthers(..) | Left(_) | Explained(..) => None,
     }
 }
 
@@ -219,7 +223,7 @@ fn ask(alloc: Global, at: &mut Embedding, step: Step) -> Reply {
             at.set_fuel(fuel);
             Reply::Done
         }
-        LinkTimes(..) | LinkOthers(..) | Left(_) => Reply::Done,
+        LinkTimes(..) | LinkOthers(..) | Left(_) | Explained(..) => Reply::Done,
     }
 }
 
@@ -279,6 +283,7 @@ fn is_so(alloc: Global, at: &mut Embedding, wanting: Option<Asked>, step: Step) 
         }
         LinkOthers(first, last) => links_others(alloc, at, first, last),
         Left(fuel) => at.fuel_left() == fuel,
+        Explained(step, text) => step_is_explained(alloc, at, step, text) == Ok(true),
         command => gets(alloc, at, wanting, command),
     }
 }

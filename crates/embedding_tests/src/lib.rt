@@ -11,14 +11,20 @@ mod constant_expressions;
 #[cfg(test)]
 mod engines;
 #[cfg(test)]
+mod explanations;
+#[cfg(test)]
 mod exports;
 #[cfg(test)]
 mod hosts;
+#[cfg(test)]
+mod invalid_modules;
 pub mod kinds;
 #[cfg(test)]
 mod lasting;
 #[cfg(test)]
 mod lists;
+#[cfg(test)]
+mod malformed_modules;
 #[cfg(test)]
 mod module_interfaces;
 #[cfg(test)]

@@ -31,6 +31,7 @@ enum Said {
     Ran(u64, u64, u64, &'static [u64]),
     NotSpelt,
     NotNow,
+    Text(&'static str),
 }
 
 // An answer, and its message as hexadecimal numbers.
@@ -41,7 +42,7 @@ struct Row {
 }
 
 #[rattlefmt::skip]
-static ROWS: [Row; 39] = [
+static ROWS: [Row; 40] = [
     Row { name: "done", said: Said::Done, message: "0000000000000000 0000000000000000" },
     Row { name: "done by a command", said: Said::SetDone, message: "0000000000000000 0000000000000000" },
     Row { name: "loaded", said: Said::Loaded(258), message: "0800000000000000 0100000000000000 0201000000000000" },
@@ -173,6 +174,7 @@ static ROWS: [Row; 39] = [
         message: "1800000000000000 0700000000000000 0100000000000000 0000000000000000 0000000000000000",
     },
     Row { name: "not spelt", said: Said::NotSpelt, message: "0000000000000000 0800000000000000" },
+    Row { name: "a text", said: Said::Text("no export"), message: "0900000000000000 0D00000000000000 6E6F206578706F7274" },
     Row { name: "not now", said: Said::NotNow, message: "0000000000000000 0900000000000000" },
 ];
 
@@ -206,6 +208,7 @@ fn make_answer(alloc: Global, said: &Said) -> Result<Answer, AllocError> {
         }),
         Said::NotSpelt => Answer::NotSpelt,
         Said::NotNow => Answer::NotNow,
+        Said::Text(text) => Answer::Text(String::from_str(alloc, text)?),
     })
 }
 

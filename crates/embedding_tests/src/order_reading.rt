@@ -26,6 +26,7 @@ enum Expected {
     QuotaLeft,
     ModuleImports(u64),
     ModuleExports(u64),
+    Explain,
     NotSpelt,
 }
 
@@ -38,7 +39,7 @@ struct Row {
 }
 
 #[rattlefmt::skip]
-static ROWS: [Row; 53] = [
+static ROWS: [Row; 55] = [
     Row { name: "end", kind: 0, fields: "", expected: Expected::End },
     Row { name: "end with a field", kind: 0, fields: "00", expected: Expected::NotSpelt },
     Row { name: "load", kind: 1, fields: "00 61 73 6D", expected: Expected::Load(&[0, 0x61, 0x73, 0x6D]) },
@@ -170,7 +171,9 @@ static ROWS: [Row; 53] = [
     Row { name: "imports of a module", kind: 16, fields: "0300000000000000", expected: Expected::ModuleImports(3) },
     Row { name: "imports of a module without a number", kind: 16, fields: "", expected: Expected::NotSpelt },
     Row { name: "exports of a module", kind: 17, fields: "0300000000000000", expected: Expected::ModuleExports(3) },
-    Row { name: "the first kind that is none", kind: 18, fields: "", expected: Expected::NotSpelt },
+    Row { name: "explain", kind: 18, fields: "", expected: Expected::Explain },
+    Row { name: "explain with a field", kind: 18, fields: "00", expected: Expected::NotSpelt },
+    Row { name: "the first kind that is none", kind: 19, fields: "", expected: Expected::NotSpelt },
     Row { name: "the greatest kind", kind: 0xFFFF_FFFF_FFFF_FFFF, fields: "", expected: Expected::NotSpelt },
 ];
 
@@ -182,7 +185,8 @@ fn is_expected(order: &Order<'_>, expected: &Expected) -> bool {
     match (order, expected) {
         (Order::End, Expected::End)
         | (Order::FuelLeft, Expected::FuelLeft)
-        | (Order::QuotaLeft, Expected::QuotaLeft) => true,
+        | (Order::QuotaLeft, Expected::QuotaLeft)
+        | (Order::Explain, Expected::Explain) => true,
         (Order::Load(bytes), Expected::Load(wanted))
         | (Order::RunScript(bytes), Expected::RunScript(wanted)) => bytes == wanted,
         (Order::Link(number), Expected::Link(wanted))

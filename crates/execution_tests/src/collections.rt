@@ -116,7 +116,7 @@ fn keeps_items(rt: HostRuntime) {
 
 fn keeps_text(alloc: Global) -> Result<bool, AllocError> {
     let name = Name::from_string(String::from_str(alloc, "add")?);
-    Ok(name.as_str() == "add" && name.into_string().as_str() == "add")
+    Ok(name.as_str() == "add")
 }
 
 fn keeps_value(alloc: Global) -> Result<bool, AllocError> {

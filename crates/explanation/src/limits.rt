@@ -1,8 +1,8 @@
 //! The limit that a module exceeds.
 
 use crate::sections::{
-    CODE_SECTION, FUNCTION_SECTION, TYPE_SECTION, from_section, imported_functions, skip_sized,
-    split_number,
+    CODE_SECTION, FUNCTION, FUNCTION_SECTION, TYPE_SECTION, from_section, imported_items,
+    skip_sized, split_number,
 };
 use std::alloc::{AllocError, Global};
 
@@ -100,7 +100,7 @@ fn large_function(types: &[Arity], bytes: &[u8]) -> Option<(u32, u64)> {
     for index in 0..count {
         let (locals, other_indices, other_bodies) = split_function(types, indices, bodies)?;
         if locals > MAX_LOCALS {
-            return Some((imported_functions(bytes)?.checked_add(index)?, locals));
+            return Some((imported_items(bytes, FUNCTION)?.checked_add(index)?, locals));
         }
         (indices, bodies) = (other_indices, other_bodies);
     }

@@ -1,6 +1,7 @@
 //! What is wrong with the parts of a module outside of bodies.
 
 use crate::constants::{ConstantFault, Constants, constant_fault};
+use crate::externs::write_signature;
 use crate::names::shown;
 use crate::types::{name_of, reference_type};
 use core_types::{
@@ -199,24 +200,10 @@ fn explain_exports(
     }
 }
 
-fn write_types(text: &mut String, types: &[ValType]) -> Result<(), AllocError> {
-    text.push_str("(")?;
-    for (k, ty) in types.iter().enumerate() {
-        if k > 0 {
-            text.push_str(" ")?;
-        }
-        text.push_str(name_of(*ty))?;
-    }
-    text.push_str(")")?;
-    Ok(())
-}
-
 // Returns that the start function has a type.
 fn start_text(alloc: Global, start: u32, ty: &FuncType) -> Result<String, AllocError> {
     let mut text = format!(in alloc; "start function {start} has type ")?;
-    write_types(&mut text, ty.params.as_slice())?;
-    text.push_str(" -> ")?;
-    write_types(&mut text, ty.results.as_slice())?;
+    write_signature(&mut text, ty)?;
     Ok(text)
 }
 

@@ -13,11 +13,13 @@ pub const FUNCTION_SECTION: u8 = 3;
 
 pub const CODE_SECTION: u8 = 10;
 
-const FUNCTION: u8 = 0;
+pub const FUNCTION: u8 = 0;
 
-const TABLE: u8 = 1;
+pub const TABLE: u8 = 1;
 
-const MEMORY: u8 = 2;
+pub const MEMORY: u8 = 2;
+
+pub const GLOBAL: u8 = 3;
 
 /// Reads an unsigned integer at the start of bytes, and returns it with the bytes after it.
 pub fn split_number(bytes: &[u8]) -> Option<(u32, &[u8])> {
@@ -63,11 +65,11 @@ fn skip_type(kind: u8, bytes: &[u8]) -> Option<&[u8]> {
     }
 }
 
-// Skips an import. Returns whether it is a function, and the bytes after it.
-fn split_import(bytes: &[u8]) -> Option<(bool, &[u8])> {
+// Skips an import. Returns its kind, and the bytes after it.
+fn split_import(bytes: &[u8]) -> Option<(u8, &[u8])> {
     let name = skip_sized(bytes)?;
     let (kind, ty) = skip_sized(name)?.split_first()?;
-    Some((*kind == FUNCTION, skip_type(*kind, ty)?))
+    Some((*kind, skip_type(*kind, ty)?))
 }
 
 // Skips the groups of locals at the start of a body.
@@ -79,19 +81,19 @@ fn skip_locals(bytes: &[u8]) -> Option<&[u8]> {
     Some(rest)
 }
 
-/// Returns the number of functions that a module imports.
-pub fn imported_functions(bytes: &[u8]) -> Option<u32> {
+/// Returns the number of items of a kind that a module imports.
+pub fn imported_items(bytes: &[u8], wanted: u8) -> Option<u32> {
     let Some(imports) = from_section(bytes, IMPORT_SECTION) else {
         return Some(0);
     };
     let (count, mut rest) = split_number(imports)?;
-    let mut functions = 0_u32;
+    let mut items = 0_u32;
     for _ in 0..count {
-        let (is_function, after) = split_import(rest)?;
-        functions = functions.saturating_add(u32::from(is_function));
+        let (kind, after) = split_import(rest)?;
+        items = items.saturating_add(u32::from(kind == wanted));
         rest = after;
     }
-    Some(functions)
+    Some(items)
 }
 
 /// Returns the bytes of a module from the operations of a body on. The body is that of a function that the module defines.
@@ -102,22 +104,4 @@ pub fn from_body(bytes: &[u8], body: usize) -> Option<&[u8]> {
     }
     let (_, content) = split_number(rest)?;
     skip_locals(content)
-}
-
-/// Returns the index of the function whose body has the byte at this offset. Returns none if no body has it, or if what is before
-/// it is malformed.
-pub fn function_of_byte(bytes: &[u8], offset: usize) -> Option<u32> {
-    let left = bytes.len().saturating_sub(offset);
-    let code = from_section(bytes, CODE_SECTION)?;
-    if code.len() < left {
-        return None;
-    }
-    let (count, mut rest) = split_number(code)?;
-    for index in 0..count {
-        rest = skip_sized(rest)?;
-        if rest.len() < left {
-            return imported_functions(bytes)?.checked_add(index);
-        }
-    }
-    None
 }

@@ -1,6 +1,7 @@
 //! The results of `decode`.
 
 use binary::{DecodeError, decode};
+use explanation::{explain_malformed, explain_unsupported};
 use std::alloc::{AllocError, Global};
 use testing::bytes_of;
 
@@ -62,8 +63,21 @@ pub fn agrees(alloc: Global, row: &Row) -> Result<bool, AllocError> {
     answers_so(alloc, &sections, row.answer)
 }
 
-/// Returns whether a module of these sections has this result.
+// Returns whether a refusal of bytes, if there is one, is explained at its place.
+fn is_explained(alloc: Global, bytes: &[u8]) -> Result<bool, AllocError> {
+    match decode(alloc, bytes) {
+        Err(DecodeError::Malformed(offset)) => {
+            Ok(explain_malformed(alloc, bytes, offset)?.is_some())
+        }
+        Err(DecodeError::Unsupported(offset)) => {
+            Ok(explain_unsupported(alloc, bytes, offset)?.is_some())
+        }
+        _ => Ok(true),
+    }
+}
+
+/// Returns whether a module of these sections has this result, and is explained if it is refused.
 pub fn answers_so(alloc: Global, sections: &[u8], answer: Answer) -> Result<bool, AllocError> {
     let bytes = with_header(alloc, sections)?;
-    Ok(answer_to(alloc, &bytes) == answer)
+    Ok(answer_to(alloc, &bytes) == answer && is_explained(alloc, &bytes)?)
 }

@@ -1,6 +1,7 @@
 -- Look-ups and changes of maps by name, in the terms of the definitions.
 use Rattle.std.proofs.Common.{◌≡◌, ℕ, Bool, true, false, cond, if◌then◌else◌, List, [], ◌∷◌, Option, Some, None, is_some, unwrap_or, refl, sym, ap, ◌∙◌, string_bytes}
-use Rattle.std.specs.Prelude.{String, bytes_eq, option_map}
+use Rattle.std.proofs.lemmas.Option.{slice_get-map}
+use Rattle.std.specs.Prelude.{String, bytes_eq, option_map, slice_get}
 use Rattle.std.specs.Map.{lookup, set_value}
 use Rattle.std.specs.String.{string_eq}
 use Rattle.indexmap.specs.IndexMap.{IndexMap, insert_entry}
@@ -66,6 +67,17 @@ number-under numbers name = by (lookup (is_named name) numbers.entries) ∙ sym 
     by : (o : Option ℕ) → o ≡ option_map (λ (n : ℕ). n) o
     by None = refl
     by (Some n) = refl
+
+-- The name of the number at an index.
+pub name-at : {Z S : Type 0} (numbers : IndexMap (String Z) ℕ S) (index : ℕ)
+    → option_map (λ (e : String Z × ℕ). string_bytes e.0) (slice_get numbers.entries index) ≡ option_map (λ (host : List ℕ × ℕ). host.0) (slice_get (numbers_in numbers) index)
+name-at {Z} numbers index = by (slice_get numbers.entries index) ∙ sym
+    (ap (option_map (λ (host : List ℕ × ℕ). host.0)) (slice_get-map (λ (e : String Z × ℕ). (string_bytes e.0, e.1)) numbers.entries index))
+  where
+    by : (o : Option (String Z × ℕ)) → option_map (λ (e : String Z × ℕ). string_bytes e.0) o
+        ≡ option_map (λ (host : List ℕ × ℕ). host.0) (option_map (λ (e : String Z × ℕ). (string_bytes e.0, e.1)) o)
+    by None = refl
+    by (Some e) = refl
 
 -- ---- maps of maps
 

@@ -1,6 +1,6 @@
-ghost use Rattle.std.specs.Prelude.{◌≡◌, ◌↔◌, IsSome, IsTrue, OnOk, OnErr, Err};
+ghost use Rattle.std.specs.Prelude.{◌≡◌, ◌↔◌, IsSome, IsTrue, OnOk, OnErr, Err, option_map, slice_get};
 ghost use Rattle.linker.specs.declared.refusals.NameRefusal.TheVariants.{NameTaken};
-ghost use Rattle.meaning.specs.embedding.Names.{HasHosts, host_of, no_names, registered_export, resolve_name, under};
+ghost use Rattle.meaning.specs.embedding.Names.{HasHosts, host_of, hosts_of, no_names, registered_export, resolve_name, under};
 ghost use Rattle.meaning.specs.embedding.Names.{with_host, with_instance};
 ghost use Rattle.store.specs.Contents.{store_of};
 
@@ -47,6 +47,16 @@ impl Names {
         ensures { result ≡ host_of self.now module_name.now name.now }
     {
         self.hosts.get(module_name)?.get(name).copied()
+    }
+
+    /// Returns the name of the host function of an index among those that are defined under the name of a module, in the order of
+    /// their definitions, or none if there are no more. Allocates nothing.
+    pub fn host_name(&self, module_name: &str, index: usize) -> Option<&str>
+        ensures { option_map (λ name. name.now) result ≡ option_map (λ host. host.0)
+            (slice_get (hosts_of self.now module_name.now) index) }
+    {
+        let (name, _) = self.hosts.get(module_name)?.get_index(index)?;
+        Some(name.as_str())
     }
 
     // Returns whether a host function is defined under this name of a module.
@@ -99,8 +109,8 @@ impl Names {
         Ok(())
     }
 
-    // Returns the instance that is registered under a name, if there is one.
-    fn instance(&self, name: &str) -> Option<u32>
+    /// Returns the instance that is registered under a name, if there is one. Allocates nothing.
+    pub fn instance(&self, name: &str) -> Option<u32>
         ensures { result ≡ under self.now.registered name.now }
     {
         self.registered.get(name).copied()

@@ -5,9 +5,11 @@ ghost use Rattle.module_info.specs.Verdicts.{IsFound, IsFoundOf, decode_verdict,
 
 use binary::{DecodeError, bytes_spell_one_module, decode};
 use core_types::Module;
-use explanation::{explain_function, explain_limit, explain_section, function_of_byte};
+use explanation::{
+    explain_function, explain_limit, explain_malformed, explain_section, explain_unsupported,
+};
 use index_spaces::IndexSpaces;
-use module_text::{unsupported, write_module};
+use module_text::write_module;
 use std::alloc::Global;
 use std::fmt::Display;
 use std::io::{self, Write};
@@ -34,21 +36,35 @@ fn write_refusal<W: Write, D: Display + Drop>(out: &mut W, line: D) -> io::Resul
     Ok(Verdict::Refused)
 }
 
-// Writes which feature begins at an offset, and in which function.
-fn write_unsupported<W: Write>(out: &mut W, bytes: &[u8], offset: usize) -> io::Result<Verdict>
+// Writes which feature begins at an offset, and where.
+fn write_unsupported<W: Write>(
+    alloc: Global,
+    out: &mut W,
+    bytes: &[u8],
+    offset: usize,
+) -> io::Result<Verdict>
     ensures verdict { IfOk result (λ verdict. verdict ≡ Verdict.Refused) }
     ensures told { IfOk result (Tells (W.contents out.old) (W.contents out.new)) }
 {
-    let feature = unsupported(bytes.get(offset..).unwrap_or(&[]));
-    match function_of_byte(bytes, offset) {
-        Some(index) => write_refusal(
-            out,
-            format_args_nl!("unsupported feature at byte {offset}, in function {index}: {feature}"),
-        ),
-        None => write_refusal(
-            out,
-            format_args_nl!("unsupported feature at byte {offset}: {feature}"),
-        ),
+    match explain_unsupported(alloc, bytes, offset) {
+        Ok(Some(text)) => write_refusal(out, format_args_nl!("unsupported feature: {text}")),
+        _ => write_refusal(out, format_args_nl!("unsupported feature at byte {offset}")),
+    }
+}
+
+// Writes why bytes are malformed at an offset.
+fn write_malformed<W: Write>(
+    alloc: Global,
+    out: &mut W,
+    bytes: &[u8],
+    offset: usize,
+) -> io::Result<Verdict>
+    ensures verdict { IfOk result (λ verdict. verdict ≡ Verdict.Refused) }
+    ensures told { IfOk result (Tells (W.contents out.old) (W.contents out.new)) }
+{
+    match explain_malformed(alloc, bytes, offset) {
+        Ok(Some(text)) => write_refusal(out, format_args_nl!("malformed module: {text}")),
+        _ => write_refusal(out, format_args_nl!("malformed module at byte {offset}")),
     }
 }
 
@@ -74,10 +90,8 @@ fn write_decode_error<W: Write>(
     ensures told { IfOk result (Tells (W.contents out.old) (W.contents out.new)) }
 {
     match error {
-        DecodeError::Unsupported(offset) => write_unsupported(out, bytes, *offset),
-        DecodeError::Malformed(offset) => {
-            write_refusal(out, format_args_nl!("malformed module at byte {offset}"))
-        }
+        DecodeError::Unsupported(offset) => write_unsupported(alloc, out, bytes, *offset),
+        DecodeError::Malformed(offset) => write_malformed(alloc, out, bytes, *offset),
         DecodeError::Limit => write_limit(alloc, out, bytes),
         DecodeError::OutOfMemory => Ok(Verdict::OutOfMemory),
     }

@@ -1,9 +1,7 @@
-//! The contents of a module, and the reason of a refusal, as text.
+//! The contents of a module, as text.
 #![tactic(auto)]
 
 mod modules;
-mod reasons;
 mod types;
 
 pub use modules::write_module;
-pub use reasons::unsupported;

@@ -27,6 +27,8 @@ pub data Order : Type 0 where
   QuotaLeft : Order
   ModuleImports : (number : ℕ) → Order
   ModuleExports : (number : ℕ) → Order
+  -- to explain why the order before was refused
+  Explain : Order
 
 -- The kind of an order's message.
 abbrev pub kind_of : Order → ℕ
@@ -48,6 +50,7 @@ kind_of (Quota bytes) = 14
 kind_of QuotaLeft = 15
 kind_of (ModuleImports number) = 16
 kind_of (ModuleExports number) = 17
+kind_of Explain = 18
 
 -- The fields of an order's message.
 abbrev pub fields_of : Order → List ℕ
@@ -74,6 +77,7 @@ fields_of (Quota bytes) = number_bytes bytes
 fields_of QuotaLeft = []
 fields_of (ModuleImports number) = number_bytes number
 fields_of (ModuleExports number) = number_bytes number
+fields_of Explain = []
 
 -- A call has values, and a definition has types. All other orders are read in place.
 abbrev pub HasLists : (kind : ℕ) → Type 0
@@ -109,3 +113,4 @@ IsEncodable (Quota bytes) = bytes < 2 ^ 64
 IsEncodable QuotaLeft = Unit {0}
 IsEncodable (ModuleImports number) = number < 2 ^ 64
 IsEncodable (ModuleExports number) = number < 2 ^ 64
+IsEncodable Explain = Unit {0}

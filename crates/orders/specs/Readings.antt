@@ -2,7 +2,7 @@
 use Rattle.meaning.specs.embedding.Commands as command
 use Rattle.orders.specs.Orders as order
 use Rattle.orders.specs.declared.order.Order.{Order}
-use Rattle.orders.specs.declared.order.Order.TheVariants.{End, Load, Link, Register, Call, GetGlobal, SetFuel, FuelLeft, Exports, File, RunScript, Define, Begin, NamedExport, Quota, QuotaLeft, ModuleImports, ModuleExports}
+use Rattle.orders.specs.declared.order.Order.TheVariants.{End, Load, Link, Register, Call, GetGlobal, SetFuel, FuelLeft, Exports, File, RunScript, Define, Begin, NamedExport, Quota, QuotaLeft, ModuleImports, ModuleExports, Explain}
 
 abbrev pub order_of : Order → order.Order
 order_of End = order.End
@@ -29,3 +29,4 @@ order_of (Quota bytes) = order.Quota bytes
 order_of QuotaLeft = order.QuotaLeft
 order_of (ModuleImports number) = order.ModuleImports number
 order_of (ModuleExports number) = order.ModuleExports number
+order_of Explain = order.Explain

@@ -40,4 +40,6 @@ pub enum Order<'a> {
     ModuleImports(u64),
     /// List what a module exports.
     ModuleExports(u64),
+    /// Explain why the order before was refused.
+    Explain,
 }

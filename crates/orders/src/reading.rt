@@ -60,6 +60,7 @@ pub fn read_order(alloc: Global, kind: u64, fields: &[u8]) -> Result<Order<'_>, 
         15 if fields.is_empty() => Ok(Order::QuotaLeft),
         16 => Ok(Order::ModuleImports(read_number(fields).ok_or(ReadFault::NotSpelt)?)),
         17 => Ok(Order::ModuleExports(read_number(fields).ok_or(ReadFault::NotSpelt)?)),
+        18 if fields.is_empty() => Ok(Order::Explain),
         _ => Err(ReadFault::NotSpelt),
     }
 }

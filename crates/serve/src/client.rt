@@ -1,6 +1,5 @@
 use crate::ending::Ending;
-use answers::{Answer, Cause, push_answer};
-use embed::Refusal;
+use answers::{Answer, push_answer};
 use io::write_all;
 use messages::{FieldsFault, Head, StreamEnd, read_fields, read_head, skip};
 use std::alloc::{AllocError, Global};
@@ -8,15 +7,24 @@ use std::alloc::{AllocError, Global};
 // The room that is reserved for a reply from the start. Most replies fit.
 const REPLY: usize = 4_096;
 
-// The kind of an order to load a module, and the most bytes that a module may have.
+// The kinds of orders to load a module and to explain the order before, and the most bytes that a module may have.
 const LOAD: u64 = 1;
 
-const MAX_MODULE_SIZE: u64 = 67_108_864;
+const EXPLAIN: u64 = 18;
 
-// What was received: an order of a kind whose fields are kept, or an order that is refused without its fields.
-enum Received {
+pub const MAX_MODULE_SIZE: u64 = 67_108_864;
+
+/// What was received.
+#[derive(Clone, Copy)]
+pub enum Received {
+    /// An order of this kind. Its fields are kept.
     Order(u64),
-    Refused(Refusal),
+    /// An order to explain the one before, whose fields are still kept.
+    Explain,
+    /// An order to load a module of that many bytes, which are too many. No fields are kept.
+    TooLarge(u64),
+    /// An order for which memory ran out. No fields are kept.
+    OutOfMemory,
 }
 
 /// The client: its messages are read from one descriptor, and messages to it are written to the other.
@@ -46,7 +54,7 @@ impl Client {
         })
     }
 
-    /// Returns the fields of the last message received.
+    /// Returns the fields of the last message, or of the one before it if the last one is an order to explain that.
     pub fn fields(&self) -> &[u8] {
         self.incoming.as_slice()
     }
@@ -63,43 +71,40 @@ impl Client {
         Ok(())
     }
 
+    // Skips the fields of a module that is too large.
+    fn skip_fields(&mut self, size: u64) -> Result<Received, Ending> {
+        self.incoming = Vec::new(self.alloc);
+        if skip(self.hear, size) {
+            Ok(Received::TooLarge(size))
+        } else {
+            Err(Ending::CutShort)
+        }
+    }
+
     // Reads the fields of a message. A module that is too large is skipped to its end.
     fn receive_fields(&mut self, size: u64, kind: u64) -> Result<Received, Ending> {
+        if kind == EXPLAIN && size == 0 {
+            return Ok(Received::Explain);
+        }
         if kind == LOAD && size > MAX_MODULE_SIZE {
-            return if skip(self.hear, size) {
-                Ok(Received::Refused(Refusal::Limit))
-            } else {
-                Err(Ending::CutShort)
-            };
+            return self.skip_fields(size);
         }
         match read_fields(self.hear, size, &mut self.incoming) {
             Ok(()) => Ok(Received::Order(kind)),
             Err(FieldsFault::CutShort) => Err(Ending::CutShort),
-            Err(FieldsFault::OutOfMemory) => Ok(Received::Refused(Refusal::OutOfMemory)),
+            Err(FieldsFault::OutOfMemory) => {
+                self.incoming = Vec::new(self.alloc);
+                Ok(Received::OutOfMemory)
+            }
         }
     }
 
-    // Reads a message.
-    fn try_receive(&mut self) -> Result<Received, Ending> {
+    /// Reads the next message.
+    pub fn receive(&mut self) -> Result<Received, Ending> {
         match read_head(self.hear) {
             Ok(Head { size, kind }) => self.receive_fields(size, kind),
             Err(StreamEnd::Over) => Err(Ending::InputOver),
             Err(StreamEnd::CutShort) => Err(Ending::CutShort),
         }
-    }
-
-    /// Returns the kind of the next message. Its fields are kept until the next one. A module that is too large is refused, and
-    /// so is a message for which an allocation fails.
-    pub fn receive(&mut self) -> Result<u64, Ending> {
-        for _ in 0..u64::MAX {
-            match self.try_receive()? {
-                Received::Order(kind) => return Ok(kind),
-                Received::Refused(refusal) => {
-                    self.incoming = Vec::new(self.alloc);
-                    self.send(&Answer::Refused(Cause::Command(refusal)))?;
-                }
-            }
-        }
-        Err(Ending::InputOver)
     }
 }

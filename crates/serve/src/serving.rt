@@ -1,11 +1,11 @@
 ghost use Rattle.std.specs.Prelude.{◌<◌, ◌^◌, length};
 
-use crate::client::Client;
+use crate::client::{Client, MAX_MODULE_SIZE, Received};
 use crate::ending::Ending;
-use answers::{Answer, Cause, obey};
+use answers::{Answer, Cause, explain, obey};
 use callback::Callback;
 use core_types::FuncType;
-use embed::{Config, Embedding, HostDef, NewFault, Refusal};
+use embed::{Config, Embedding, HostDef, NewFault, Refusal, Reply};
 use messages::ReadFault;
 use orders::{Order, read_order};
 use std::alloc::{AllocError, Global};
@@ -34,11 +34,19 @@ enum Preparation {
     Answered(Answer),
 }
 
+// The kind of an order to end.
+const END: u64 = 0;
+
+// Returns the answer that an order is refused.
+fn refused(refusal: Refusal) -> Answer {
+    Answer::Refused(Cause::Command(refusal))
+}
+
 // Returns the answer to a message that was not read.
 fn unread(fault: ReadFault) -> Answer {
     match fault {
         ReadFault::NotSpelt => Answer::NotSpelt,
-        ReadFault::OutOfMemory => Answer::Refused(Cause::Command(Refusal::OutOfMemory)),
+        ReadFault::OutOfMemory => refused(Refusal::OutOfMemory),
     }
 }
 
@@ -81,31 +89,118 @@ fn prepare(alloc: Global, order: Order<'_>) -> Preparation {
     }
 }
 
-// Returns what the next message requests before there is an embedding.
-fn next_preparation(alloc: Global, client: &mut Client) -> Result<Preparation, Ending> {
-    let kind = client.receive()?;
-    match read_order(alloc, kind, client.fields()) {
-        Ok(order) => Ok(prepare(alloc, order)),
-        Err(fault) => Ok(Preparation::Answered(unread(fault))),
+// Returns what an order of a kind requests before there is an embedding.
+fn preparation_of(alloc: Global, kind: u64, fields: &[u8]) -> Preparation {
+    match read_order(alloc, kind, fields) {
+        Ok(order) => prepare(alloc, order),
+        Err(fault) => Preparation::Answered(unread(fault)),
     }
 }
 
-// Obeys the last message. Returns the answer, and whether the message was the end.
-fn answer_message(
+// Returns what the next message requests before there is an embedding.
+fn next_preparation(alloc: Global, client: &mut Client) -> Result<Preparation, Ending> {
+    match client.receive()? {
+        Received::Order(kind) => Ok(preparation_of(alloc, kind, client.fields())),
+        Received::Explain => Ok(Preparation::Answered(Answer::NotNow)),
+        Received::TooLarge(_) => Ok(Preparation::Answered(refused(Refusal::Limit))),
+        Received::OutOfMemory => Ok(Preparation::Answered(refused(Refusal::OutOfMemory))),
+    }
+}
+
+// Obeys an order of a kind.
+fn answer_order(
     alloc: Global,
     kind: u64,
     fields: &[u8],
     embedding: &mut Embedding,
     files: &mut Vec<(String, Vec<u8>)>,
-) -> (Answer, bool)
+) -> Answer
     requires nothing { Unit {0} }
 {
     match read_order(alloc, kind, fields) {
-        Ok(order) => {
-            let is_end = matches!(&order, Order::End);
-            (obey(alloc, embedding, &order, files), is_end)
+        Ok(order) => obey(alloc, embedding, &order, files),
+        Err(fault) => unread(fault),
+    }
+}
+
+// The last order, other than one to explain it.
+#[derive(Drop)]
+enum LastOrder {
+    // It was not refused.
+    Answered,
+    // An order of this kind was refused.
+    Refused(u64, Cause),
+    // It was to load a module of that many bytes, which are too many.
+    TooLarge(u64),
+}
+
+// Returns the order of a kind as the last one, with its answer.
+fn last_order(kind: u64, answer: Answer) -> LastOrder {
+    match answer {
+        Answer::Refused(cause) => LastOrder::Refused(kind, cause),
+        Answer::Applied(Reply::Refused(refusal)) => {
+            LastOrder::Refused(kind, Cause::Command(refusal))
         }
-        Err(fault) => (unread(fault), false),
+        _ => LastOrder::Answered,
+    }
+}
+
+// Explains why a module of that many bytes is refused.
+fn explain_size(alloc: Global, size: u64) -> Answer {
+    match format!(in alloc;
+        "module exceeds a limit: {size} bytes, and at most {MAX_MODULE_SIZE} are allowed"
+    ) {
+        Ok(text) => Answer::Text(text),
+        Err(_) => refused(Refusal::OutOfMemory),
+    }
+}
+
+// Explains why the last order, with these fields, was refused, if it was.
+fn answer_explain(alloc: Global, last: &LastOrder, fields: &[u8], embedding: &Embedding) -> Answer
+    requires nothing { Unit {0} }
+{
+    match last {
+        LastOrder::Answered => Answer::NotNow,
+        LastOrder::Refused(kind, cause) => match read_order(alloc, *kind, fields) {
+            Ok(order) => explain(alloc, embedding, &order, cause),
+            Err(fault) => unread(fault),
+        },
+        LastOrder::TooLarge(size) => explain_size(alloc, *size),
+    }
+}
+
+// Answers the next message, after a last order. Returns the last order then, or none after the end.
+fn serve_message(
+    alloc: Global,
+    client: &mut Client,
+    embedding: &mut Embedding,
+    files: &mut Vec<(String, Vec<u8>)>,
+    last: LastOrder,
+) -> Result<Option<LastOrder>, Ending>
+    requires nothing { Unit {0} }
+{
+    match client.receive()? {
+        Received::Order(kind) => {
+            let answer = answer_order(alloc, kind, client.fields(), embedding, files);
+            client.send(&answer)?;
+            if kind == END && matches!(&answer, Answer::Done) {
+                return Ok(None);
+            }
+            Ok(Some(last_order(kind, answer)))
+        }
+        Received::Explain => {
+            let answer = answer_explain(alloc, &last, client.fields(), embedding);
+            client.send(&answer)?;
+            Ok(Some(last))
+        }
+        Received::TooLarge(size) => {
+            client.send(&refused(Refusal::Limit))?;
+            Ok(Some(LastOrder::TooLarge(size)))
+        }
+        Received::OutOfMemory => {
+            client.send(&refused(Refusal::OutOfMemory))?;
+            Ok(Some(LastOrder::Refused(END, Cause::Command(Refusal::OutOfMemory))))
+        }
     }
 }
 
@@ -118,12 +213,11 @@ fn serve_embedding(
     requires nothing { Unit {0} }
 {
     let mut files = Vec::new(alloc);
+    let mut last = LastOrder::Answered;
     for _ in 0..u64::MAX {
-        let kind = client.receive()?;
-        let (answer, is_end) = answer_message(alloc, kind, client.fields(), embedding, &mut files);
-        client.send(&answer)?;
-        if is_end {
-            return Ok(());
+        match serve_message(alloc, client, embedding, &mut files, last)? {
+            Some(next) => last = next,
+            None => return Ok(()),
         }
     }
     Ok(())

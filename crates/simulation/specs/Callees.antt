@@ -186,10 +186,12 @@ pub record IsHostCall (op : PlainOp) (address : ℕ) (function : FunctionInstanc
   pub calls : next c.reached.new.store (frame_of c.reached.new) (config_of c.reached.new) ≡
       CallsHost 1 number (lent_memory c.reached.new.store (frame_of c.reached.new))
       (values_of function.ty.params (operand_cells cells height (length function.ty.params)))
-      (in_frame (drop (length function.ty.params) c.reached.values) c.reached.new.labels c.reached.rest)
+      (in_frame (drop (length function.ty.params) c.reached.values) c.reached.new.labels
+      c.reached.rest)
   pub answer : (store' : Store) (results : List Val)
       → answered results
-      (in_frame (drop (length function.ty.params) c.reached.values) c.reached.new.labels c.reached.rest) ≡
+      (in_frame (drop (length function.ty.params) c.reached.values) c.reached.new.labels
+      c.reached.rest) ≡
       config_of (behind_call c store' results)
   -- the code continues at the next place, in a store that follows
   pub goes_on : (store' : Store) (results : List Val) → StoreIsValid store'

@@ -10,8 +10,6 @@ mod control;
 #[cfg(test)]
 mod descriptions;
 #[cfg(test)]
-mod explanations;
-#[cfg(test)]
 mod import_matching;
 #[cfg(test)]
 mod long_types;

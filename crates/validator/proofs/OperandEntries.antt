@@ -203,7 +203,16 @@ ends_in_run es bs x types n m k each last top final is ends =
     let q = types_of (take m bs) in
     let parts = split_last es Run n last top in
     let runs = types_parts bs x m final is in
-    let count : runs_in below ≡ length q = omega (arith, runs_of_run below, ap runs_in parts, each, ap length runs, length-append q (x.now ∷ []), length-map bs (λ (run : Bor (List ValType)). run.now)) in
+    let count : runs_in below ≡ length q =
+    omega (
+      arith,
+      runs_of_run below,
+      ap runs_in parts,
+      each,
+      ap length runs,
+      length-append q (x.now ∷ []),
+      length-map bs (λ (run : Bor (List ValType)). run.now),
+    ) in
     let halves : x.now ≡ take k x.now ++ types = sym (take-append-drop k x.now) ∙ ap (λ (z : List ValType). take k x.now ++ z) ends in (
       operands_in below q ++ known (take k x.now),
       ap (λ (z : List Entry). operands_in z (types_of bs)) parts ∙ ap (λ (z : List (List ValType)). operands_in (below ++ Run ∷ []) z) runs

@@ -70,10 +70,10 @@ PopsOne frame old wanted new true =
 PopsOne frame old wanted new false = Refuses frame.unreachable frame.height old (wanted ∷ [])
 
 -- Operands of the wanted types are taken, and operands of the result types are pushed.
-abbrev pub Replaces : ControlFrame → List OperandType → List ValType → List ValType → List OperandType
-    → Type 0
-Replaces frame old wanted results new =
-    (rest : List OperandType) × TakesOff frame old (known wanted) rest × (new ≡ rest ++ known results)
+abbrev pub Replaces : ControlFrame → List OperandType → (wanted results : List ValType)
+    → List OperandType → Type 0
+Replaces frame old wanted results new = (rest : List OperandType)
+    × TakesOff frame old (known wanted) rest × (new ≡ rest ++ known results)
 
 -- The result of a pop from the stacks, whose frames stay.
 abbrev pub PopsFrom : Stacks → List OperandType → Stacks → Bool → Type 0
@@ -99,7 +99,7 @@ ReplacesTop height old wanted given new = (rest : List OperandType) × (old ≡ 
     × (height ≤ length rest) × (new ≡ rest ++ Known given ∷ [])
 
 -- Operands are taken that fit the types from a place on, up to another one.
-abbrev pub PopsPart : ControlFrame → List OperandType → List ValType → (left next : ℕ) → List OperandType
-    → Type 0
+abbrev pub PopsPart : ControlFrame → List OperandType → List ValType → (left next : ℕ)
+    → List OperandType → Type 0
 PopsPart frame old wanted left next new = (next < left) × ((given : List OperandType)
     × TakesOff frame old given new × AllFit given (known (take (left - next) (drop next wanted))))

@@ -35,20 +35,6 @@ pub enum ValidateError {
     OutOfMemory,
 }
 
-impl ValidateError {
-    ghost use Rattle.validator.specs.Errors.{validate_number};
-
-    /// Returns the number of the refusal.
-    pub fn number(&self) -> u8
-        ensures { result ≡ validate_number self.now }
-    {
-        match self {
-            ValidateError::Invalid(_) => 4,
-            ValidateError::OutOfMemory => 13,
-        }
-    }
-}
-
 impl From<AllocError> for ValidateError {
     ghost from_gives = { λ _ error. error ≡ OutOfMemory };
 

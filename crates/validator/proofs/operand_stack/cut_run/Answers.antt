@@ -63,7 +63,8 @@ returns-then-run-most-clause-entries c =
     let (below, parts) = c.requires.top in
     let bs = c.args.runs.now.items in
     let last : c.len-index.result - 1 + 1 ≡ length bs = omega (arith, c.len-index.ensures, some_runs c.args.entries.now.items bs c.args.more.now below c.requires.entries parts) in
-    let left : c.truncate-then-run-most.new.self.items ≡ below = c.truncate-then-run-most.ensures.items ∙ entries_below c.args.entries.now.items below (c.len.result - 1) parts (omega (arith, c.len.ensures)) in
+    let left : c.truncate-then-run-most.new.self.items ≡ below =
+    c.truncate-then-run-most.ensures.items ∙ entries_below c.args.entries.now.items below (c.len.result - 1) parts (omega (arith, c.len.ensures)) in
     rw (left, c.truncate.ensures.items) (without_run below (types_of (take (c.len-index.result - 1) bs)) c.index-run.result.now.now
     (kept_parts c.args.entries.now.items bs c.args.more.now c.index-run.result.now (c.len-index.result - 1) below c.requires.entries parts last c.index-run.ensures))
 
@@ -73,7 +74,8 @@ returns-then-run-most-clause-popped c =
     let bs = c.args.runs.now.items in
     let n = c.len-index.result - 1 in
     let last : n + 1 ≡ length bs = omega (arith, c.len-index.ensures, some_runs c.args.entries.now.items bs c.args.more.now below c.requires.entries parts) in
-    let left : c.truncate-then-run-most.new.self.items ≡ below = c.truncate-then-run-most.ensures.items ∙ entries_below c.args.entries.now.items below (c.len.result - 1) parts (omega (arith, c.len.ensures)) in
+    let left : c.truncate-then-run-most.new.self.items ≡ below =
+    c.truncate-then-run-most.ensures.items ∙ entries_below c.args.entries.now.items below (c.len.result - 1) parts (omega (arith, c.len.ensures)) in
     let kept = kept_parts c.args.entries.now.items bs c.args.more.now c.index-run.result.now n below c.requires.entries parts last c.index-run.ensures in
     rw (left, c.truncate.ensures.items, parts, types_parts bs c.index-run.result.now n last c.index-run.ensures)
     (operands_with_run below (types_of (take n bs)) c.index-run.result.now.now kept)

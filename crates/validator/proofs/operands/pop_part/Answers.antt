@@ -40,7 +40,18 @@ returns-then-not-are_equal-clause-refused c =
     let part = take (c.args.left - next) (drop next wanted) in
     let sizes = ap length c.in-Some.ensures.popped ∙ length-append c.pop_run.new.self (known types) in
     let few : length types ≤ c.args.left = grind (arith, nat_tests, c.in-Some.ensures.bound, c.min-most.ensures) in
-    let high : height ≤ length c.pop_run.new.self = grind (arith, nat_tests, c.in-Some.ensures.bound, c.min-most.ensures, c.len.ensures, c.is_above.ensures, c.if-not-is_above.false, sizes, length-map types Known) in
+    let high : height ≤ length c.pop_run.new.self =
+    grind (
+      arith,
+      nat_tests,
+      c.in-Some.ensures.bound,
+      c.min-most.ensures,
+      c.len.ensures,
+      c.is_above.ensures,
+      c.if-not-is_above.false,
+      sizes,
+      length-map types Known,
+    ) in
     let takes = Takes-many unreachable height c.args.operands.now c.pop_run.new.self (known types) c.in-Some.ensures.popped high in
     let long : length (known types) ≡ length (known part) =
     omega (arith, length-map types Known, length-map part Known, length-take-le (c.args.left - next) (drop next wanted) (omega (arith, length-drop next wanted, c.requires.within)), few) in
@@ -56,6 +67,17 @@ returns-clause-popped c =
     let height = c.args.frame.now.height in
     let types = c.in-Some.types.now in
     let sizes = ap length c.in-Some.ensures.popped ∙ length-append c.pop_run.new.self (known types) in
-    let high : height ≤ length c.pop_run.new.self = grind (arith, nat_tests, c.in-Some.ensures.bound, c.min-most.ensures, c.len.ensures, c.is_above.ensures, c.if-not-is_above.false, sizes, length-map types Known) in
+    let high : height ≤ length c.pop_run.new.self =
+    grind (
+      arith,
+      nat_tests,
+      c.in-Some.ensures.bound,
+      c.min-most.ensures,
+      c.len.ensures,
+      c.is_above.ensures,
+      c.if-not-is_above.false,
+      sizes,
+      length-map types Known,
+    ) in
     let takes = Takes-many unreachable height c.args.operands.now c.pop_run.new.self (known types) c.in-Some.ensures.popped high in
     (omega (arith, c.requires.some, c.in-Some.ensures.some), (known types, takes, subst (λ z. AllFit (known types) (known z)) (c.if-not-are_equal.ensures.0 refl) (AllFit-same (known types))))

@@ -15,7 +15,7 @@ returns-in_default c =
     let left = c.loop-left.left in
     let whole : known wanted ≡ known (take left wanted) ++ known (drop left wanted) = ap known (sym (take-append-drop left wanted)) ∙ map-append Known (take left wanted) (drop left wanted) in
     subst (Refuses c.args.frame.now.unreachable c.args.frame.now.height c.args.operands.now) (sym whole)
-    (Refuses-below c.args.frame.now.unreachable c.args.frame.now.height c.args.operands.now given c.loop-left.operands (known (take left wanted)) (known (drop left wanted)) takes fits c.in_default.ensures.refused)
+    (Refuses-below _ _ _ given c.loop-left.operands (known (take left wanted)) (known (drop left wanted)) takes fits c.in_default.ensures.refused)
 
 pub loop-left-preserved : goal.loop-left-preserved
 loop-left-preserved c =

@@ -11,5 +11,6 @@ pub returns : goal.returns
 returns c =
     let inside = c.self.inside in
     let whole : operands_in c.push.new.self.items (types_of inside.runs.items) ≡ c.args.self.now ++ c.args.operand ∷ [] =
-    rw (c.in_ok-push.ensures.items, c.entry_of.ensures) (one_more inside.entries.items (types_of inside.runs.items) c.args.operand ∙ ap (λ (z : List OperandType). z ++ c.args.operand ∷ []) c.self.view_is) in
+    rw (c.in_ok-push.ensures.items, c.entry_of.ensures) (one_more inside.entries.items (types_of inside.runs.items) c.args.operand
+    ∙ ap (λ (z : List OperandType). z ++ c.args.operand ∷ []) c.self.view_is) in
     whole

@@ -1,9 +1,7 @@
-//! The texts that explain why a module is not valid.
+//! Why modules are not valid, in the texts of `explain_module`.
 
-use crate::reasons::{bytes_have_line, text_has_line};
-use std::alloc::{AllocError, Global};
-
-// The text of a module, and what its line says after `invalid module: `. The offsets are those of another assembler.
+use crate::explanations::{is_explained, text_is_explained};
+// The text of a module, and what its explanation says after `invalid module: `. The offsets are those of another assembler.
 #[rattlefmt::skip]
 static BODIES: [(&str, &str); 54] = [
     ("(func (result i32) i64.const 1)", "type mismatch in function 0, operation 1 at offset 0x1a: end expects i32, found i64"),
@@ -81,7 +79,7 @@ static BODIES: [(&str, &str); 54] = [
         "type mismatch in function 0 (\"xxxxxxxxxxxxxxxxxxxxxxxxxxxxxxxxxxxxxxxxxxxxxxxxxxxxxxxxxxxxxxxxxxxxxxxxxxxxxxxx\"), operation 0 at offset 0x72: i32.eqz expects i32, found nothing"),
 ];
 
-// The text of a module that is not valid outside of bodies, and what its line says after `invalid module: `.
+// The text of a module that is not valid outside of bodies, and what its explanation says after `invalid module: `.
 #[rattlefmt::skip]
 static PARTS: [(&str, &str); 31] = [
     ("(import \"m\" \"f\" (func (type 3)))", "import 0 (\"m\" \"f\"): type 3 is not there, and there are 0"),
@@ -117,81 +115,28 @@ static PARTS: [(&str, &str); 31] = [
     ("(memory 1) (data \"y\") (data (offset i64.const 0) \"x\")", "data segment 1: offset has type i64, expected i32"),
 ];
 
-// A module whose function is exported under a name with a line break, in hexadecimal, and its line.
+// A module whose function is exported under a name with a line break, in hexadecimal.
 const BROKEN_NAME: &str =
     "0061736D01000000 010401600000 03020100 07070103 610A62 0000 0A050103 00450B";
 
-const BROKEN_NAME_LINE: &str =
-    "invalid module: type mismatch in function 0 (\"a\\nb\"), operation 0 at offset 0x20: i32.eqz expects i32, found nothing\n";
-
-// What a module has that exceeds a limit, and the line for it: the front of a module, and how often a byte is in it before the rest.
-#[rattlefmt::skip]
-static LIMITS: [LimitRow; 4] = [
-    LimitRow { front: "0061736D01000000 01EE07 0160E907", repeated: "7F", times: 1001, rest: "00",
-        line: "module exceeds a limit: type 0 has 1001 parameters, and at most 1000 are allowed\n" },
-    LimitRow { front: "0061736D01000000 01F107 02600000 6000E907", repeated: "7E", times: 1001, rest: "",
-        line: "module exceeds a limit: type 1 has 1001 results, and at most 1000 are allowed\n" },
-    LimitRow { front: "0061736D01000000 010401600000 03020100 0A08010601 D18603", repeated: "7F", times: 1, rest: "0B",
-        line: "module exceeds a limit: function 0 has 50001 locals with its parameters, and at most 50000 are allowed\n" },
-    LimitRow { front: "0061736D01000000 010501 60017F00 020701016D01660000 030201000A08010601 D08603", repeated: "7F", times: 1, rest: "0B",
-        line: "module exceeds a limit: function 1 has 50001 locals with its parameters, and at most 50000 are allowed\n" },
-];
-
-struct LimitRow {
-    front: &'static str,
-    repeated: &'static str,
-    times: usize,
-    rest: &'static str,
-    line: &'static str,
-}
-
-// Returns the bytes of a row in hexadecimal.
-fn limit_module(alloc: Global, row: &LimitRow) -> Result<String, AllocError> {
-    let mut text = String::from_str(alloc, row.front)?;
-    for _ in 0..row.times {
-        text.push_str(row.repeated)?;
-    }
-    text.push_str(row.rest)?;
-    Ok(text)
-}
-
-fn limit_has_line(alloc: Global, row: &LimitRow) -> bool {
-    match limit_module(alloc, row) {
-        Ok(text) => bytes_have_line(alloc, text.as_str(), row.line),
-        Err(_) => false,
-    }
-}
-
-// Returns whether the module of a text is refused with a line that ends so.
-fn is_explained(alloc: Global, text: &str, explanation: &str) -> bool {
-    match format!(in alloc; "invalid module: {explanation}\n") {
-        Ok(line) => text_has_line(alloc, text, line.as_str()),
-        Err(_) => false,
-    }
-}
+const BROKEN_NAME_TEXT: &str =
+    "type mismatch in function 0 (\"a\\nb\"), operation 0 at offset 0x20: i32.eqz expects i32, found nothing";
 
 #[test]
 fn invalid_bodies_are_explained(rt: HostRuntime) {
     for (text, explanation) in &BODIES {
-        assert!(rt; is_explained(rt.alloc(), text, explanation), "{text}");
+        assert!(rt; text_is_explained(rt.alloc(), text, explanation), "{text}");
     }
 }
 
 #[test]
 fn invalid_parts_are_explained(rt: HostRuntime) {
     for (text, explanation) in &PARTS {
-        assert!(rt; is_explained(rt.alloc(), text, explanation), "{text}");
-    }
-}
-
-#[test]
-fn exceeded_limits_are_explained(rt: HostRuntime) {
-    for row in &LIMITS {
-        assert!(rt; limit_has_line(rt.alloc(), row), "{}", row.line);
+        assert!(rt; text_is_explained(rt.alloc(), text, explanation), "{text}");
     }
 }
 
 #[test]
 fn names_in_explanations_are_escaped(rt: HostRuntime) {
-    assert!(rt; bytes_have_line(rt.alloc(), BROKEN_NAME, BROKEN_NAME_LINE));
+    assert!(rt; is_explained(rt.alloc(), BROKEN_NAME, "invalid module", BROKEN_NAME_TEXT));
 }
