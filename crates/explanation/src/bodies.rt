@@ -8,7 +8,7 @@ use crate::instructions::{
     signature_of_numeric, signature_of_table, signature_of_variable,
 };
 use crate::operands::{Opener, Stacks};
-use crate::types::{Signature, signature_of};
+use crate::types::{Signature, once, signature_of, takes_gives};
 use core_types::{LentOp, Op, OpWith, PlainOp, ValType, mark_of, plain_op};
 use std::alloc::{AllocError, Global};
 
@@ -19,8 +19,25 @@ pub struct Found {
     pub fault: Fault,
 }
 
-// Checks an instruction without a body and a list.
-fn check_plain<'a>(
+// Returns what an instruction takes and gives, if that is known from what it names.
+fn signature_of_plain(
+    context: Context<'_>,
+    op: &PlainOp,
+) -> Result<Option<Signature<'static>>, Fault> {
+    let signature = match op {
+        PlainOp::Variable(op) => signature_of_variable(context, *op),
+        PlainOp::Table(op) => signature_of_table(context, *op),
+        PlainOp::Memory(op) => signature_of_memory(context, *op),
+        PlainOp::Numeric(op) => Ok(signature_of_numeric(*op)),
+        PlainOp::I32Const(_) => Ok(takes_gives(&[], once(ValType::I32))),
+        PlainOp::I64Const(_) => Ok(takes_gives(&[], once(ValType::I64))),
+        _ => return Ok(None),
+    };
+    Ok(Some(signature?))
+}
+
+// Checks an instruction of which that is not known.
+fn check_other<'a>(
     context: Context<'a>,
     stacks: &mut Stacks<'a>,
     op: &PlainOp,
@@ -29,14 +46,21 @@ fn check_plain<'a>(
         PlainOp::Control(op) => check_control(context, stacks, *op),
         PlainOp::Reference(op) => check_reference(context, stacks, *op),
         PlainOp::Parametric(op) => check_parametric(stacks, *op),
-        PlainOp::Variable(op) => stacks.apply(signature_of_variable(context, *op)?),
-        PlainOp::Table(op) => stacks.apply(signature_of_table(context, *op)?),
-        PlainOp::Memory(op) => stacks.apply(signature_of_memory(context, *op)?),
-        PlainOp::Numeric(op) => stacks.apply(signature_of_numeric(*op)),
-        PlainOp::I32Const(_) => Ok(stacks.push(ValType::I32)?),
-        PlainOp::I64Const(_) => Ok(stacks.push(ValType::I64)?),
         PlainOp::BrTable(table) => check_branch_table(stacks, table.get()),
         PlainOp::SelectTyped(types) => check_typed_select(stacks, types.get().as_slice()),
+        _ => Ok(()),
+    }
+}
+
+// Checks an instruction without a body.
+fn check_plain<'a>(
+    context: Context<'a>,
+    stacks: &mut Stacks<'a>,
+    op: &PlainOp,
+) -> Result<(), Stop> {
+    match signature_of_plain(context, op)? {
+        Some(signature) => stacks.apply(signature),
+        None => check_other(context, stacks, op),
     }
 }
 
@@ -64,32 +88,52 @@ fn begin<'a>(context: Context<'a>, stacks: &mut Stacks<'a>) -> Result<(), Stop> 
     Ok(())
 }
 
-// Returns what a check found, at an operation.
-fn found_at(operation: usize, stop: Stop) -> Result<Option<Found>, AllocError> {
-    match stop {
-        Stop::Fault(fault) => Ok(Some(Found { operation, fault })),
-        Stop::OutOfMemory => Err(AllocError),
-        Stop::TooLong => Ok(None),
+// Where and why the check of a body stops.
+#[derive(Clone, Copy)]
+struct Halt {
+    operation: usize,
+    stop: Stop,
+}
+
+// Checks the operations of a body.
+fn check_operations<'a>(context: Context<'a>, stacks: &mut Stacks<'a>) -> Result<(), Halt> {
+    let body = &context.func.body;
+    for operation in 0..body.len() {
+        if let Err(stop) = check(context, stacks, body.get(operation)) {
+            return Err(Halt { operation, stop });
+        }
+        if stacks.is_too_long() {
+            let stop = Stop::TooLong;
+            return Err(Halt { operation, stop });
+        }
+    }
+    Ok(())
+}
+
+// Checks a body.
+fn check_body<'a>(context: Context<'a>, stacks: &mut Stacks<'a>) -> Result<(), Halt> {
+    if let Err(stop) = begin(context, stacks) {
+        return Err(Halt { operation: 0, stop });
+    }
+    check_operations(context, stacks)?;
+    match stacks.close() {
+        Ok(_) => Ok(()),
+        Err(fault) => Err(Halt {
+            operation: context.func.body.len(),
+            stop: Stop::Fault(fault),
+        }),
     }
 }
 
 /// Returns the first fault of a body, if it has one. Returns none, too, for a body whose check takes very long.
 pub fn first_fault(alloc: Global, context: Context<'_>) -> Result<Option<Found>, AllocError> {
     let mut stacks = Stacks::new(alloc);
-    let body = &context.func.body;
-    if let Err(stop) = begin(context, &mut stacks) {
-        return found_at(0, stop);
-    }
-    for index in 0..body.len() {
-        if let Err(stop) = check(context, &mut stacks, body.get(index)) {
-            return found_at(index, stop);
-        }
-        if stacks.is_too_long() {
-            return Ok(None);
-        }
-    }
-    match stacks.close() {
-        Ok(_) => Ok(None),
-        Err(fault) => found_at(body.len(), Stop::Fault(fault)),
+    let Err(Halt { operation, stop }) = check_body(context, &mut stacks) else {
+        return Ok(None);
+    };
+    match stop {
+        Stop::Fault(fault) => Ok(Some(Found { operation, fault })),
+        Stop::OutOfMemory => Err(AllocError),
+        Stop::TooLong => Ok(None),
     }
 }

@@ -31,6 +31,47 @@ fn large_table(tables: &[TableType], entries: u32) -> Option<(usize, u32)> {
     None
 }
 
+// A memory or a table that is larger than an embedding allows.
+#[derive(Clone, Copy)]
+struct TooLarge {
+    // the index, counted with those that are imported
+    index: usize,
+    kind: &'static str,
+    found: u32,
+    most: u32,
+    unit: &'static str,
+}
+
+// Returns the first memory or table that is larger than an embedding allows.
+fn first_too_large(module: &Module, spaces: &IndexSpaces, bounds: Bounds) -> Option<TooLarge> {
+    if let Some((own, found)) = large_memory(module.memories.as_slice(), bounds.pages) {
+        let imported = spaces.memories.len().saturating_sub(module.memories.len());
+        return Some(TooLarge {
+            index: imported.saturating_add(own),
+            kind: "memory",
+            found,
+            most: bounds.pages,
+            unit: "pages",
+        });
+    }
+    let (own, found) = large_table(module.tables.as_slice(), bounds.entries)?;
+    let imported = spaces.tables.len().saturating_sub(module.tables.len());
+    Some(TooLarge {
+        index: imported.saturating_add(own),
+        kind: "table",
+        found,
+        most: bounds.entries,
+        unit: "entries",
+    })
+}
+
+// Returns the text of what is too large.
+fn text_of(alloc: Global, large: TooLarge) -> Result<String, AllocError> {
+    let (kind, index) = (large.kind, large.index);
+    let (found, most, unit) = (large.found, large.most, large.unit);
+    format!(in alloc; "{kind} {index} has {found} {unit}, and at most {most} are allowed")
+}
+
 /// Returns which memory or table that a module defines is larger than an embedding allows, or none if none is.
 ///
 /// # Errors
@@ -42,27 +83,8 @@ pub fn explain_bounds(
     bounds: Bounds,
 ) -> Result<Option<String>, AllocError> {
     let spaces = IndexSpaces::new(alloc, module)?;
-    if let Some((own, found)) = large_memory(module.memories.as_slice(), bounds.pages) {
-        let index = spaces
-            .memories
-            .len()
-            .saturating_sub(module.memories.len())
-            .saturating_add(own);
-        let most = bounds.pages;
-        return Ok(Some(format!(in alloc;
-            "memory {index} has {found} pages, and at most {most} are allowed"
-        )?));
+    match first_too_large(module, &spaces, bounds) {
+        Some(large) => Ok(Some(text_of(alloc, large)?)),
+        None => Ok(None),
     }
-    if let Some((own, found)) = large_table(module.tables.as_slice(), bounds.entries) {
-        let index = spaces
-            .tables
-            .len()
-            .saturating_sub(module.tables.len())
-            .saturating_add(own);
-        let most = bounds.entries;
-        return Ok(Some(format!(in alloc;
-            "table {index} has {found} entries, and at most {most} are allowed"
-        )?));
-    }
-    Ok(None)
 }

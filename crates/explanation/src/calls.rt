@@ -17,6 +17,7 @@ fn type_of(value: Val) -> ValType {
 }
 
 // An argument of another type than its parameter.
+#[derive(Clone, Copy)]
 struct Misfit {
     index: usize,
     expected: &'static str,
@@ -51,6 +52,30 @@ fn first_dangling(args: &[Val], functions: usize) -> Option<(usize, u32)> {
     None
 }
 
+// Returns that there are too few or too many arguments.
+fn explain_count(
+    alloc: Global,
+    expected: usize,
+    found: usize,
+) -> Result<Option<String>, AllocError> {
+    Ok(Some(format!(in alloc; "number of arguments: expected {expected}, found {found}")?))
+}
+
+// Returns which argument is of another type than its parameter.
+fn explain_misfit(alloc: Global, misfit: Misfit) -> Result<Option<String>, AllocError> {
+    let (index, expected, found) = (misfit.index, misfit.expected, misfit.found);
+    Ok(Some(format!(in alloc; "argument {index}: expected {expected}, found {found}")?))
+}
+
+// Returns which argument refers to a function that does not exist.
+fn explain_dangling(
+    alloc: Global,
+    index: usize,
+    address: u32,
+) -> Result<Option<String>, AllocError> {
+    Ok(Some(format!(in alloc; "argument {index}: there is no function {address}")?))
+}
+
 /// Returns which argument is not of the type of its parameter, or refers to none of so many functions, or that there are too few
 /// or too many arguments. Returns none if the arguments are right.
 ///
@@ -64,25 +89,13 @@ pub fn explain_arguments(
     functions: usize,
 ) -> Result<Option<String>, AllocError> {
     if params.len() != args.len() {
-        let (expected, found) = (params.len(), args.len());
-        return Ok(Some(format!(in alloc;
-            "number of arguments: expected {expected}, found {found}"
-        )?));
+        return explain_count(alloc, params.len(), args.len());
     }
-    if let Some(
-        Misfit {
-            index,
-            expected,
-            found,
-        },
-    ) = first_misfit(params, args)
-    {
-        return Ok(Some(format!(in alloc; "argument {index}: expected {expected}, found {found}")?));
+    if let Some(misfit) = first_misfit(params, args) {
+        return explain_misfit(alloc, misfit);
     }
     match first_dangling(args, functions) {
-        Some((index, address)) => Ok(Some(format!(in alloc;
-            "argument {index}: there is no function {address}"
-        )?)),
+        Some((index, address)) => explain_dangling(alloc, index, address),
         None => Ok(None),
     }
 }
@@ -97,22 +110,32 @@ fn export_of(exports: &[Export], name: &str) -> Option<ExportDesc> {
     None
 }
 
+// Appends what is exported under a name, or that nothing is.
+fn write_named(text: &mut String, exports: &[Export], name: &str) -> Result<(), AllocError> {
+    let name_shown = shown(name);
+    match export_of(exports, name) {
+        Some(desc) => write!(text, "export {name_shown:?} is a {}: ", kind_of(desc)),
+        None => write!(text, "no export {name_shown:?}: "),
+    }
+}
+
+// Appends the exports that there are.
+fn write_list(text: &mut String, exports: &[Export]) -> Result<(), AllocError> {
+    if exports.is_empty() {
+        return text.push_str("there are no exports");
+    }
+    text.push_str("the exports are ")?;
+    write_exports(text, exports)
+}
+
 /// Returns that nothing is exported under a name, or what it is if something is, and the exports that there are.
 ///
 /// # Errors
 ///
 /// Fails if an allocation fails.
 pub fn explain_export(alloc: Global, exports: &[Export], name: &str) -> Result<String, AllocError> {
-    let shown_name = shown(name);
-    let mut text = match export_of(exports, name) {
-        Some(desc) => format!(in alloc; "export {shown_name:?} is a {}: ", kind_of(desc)),
-        None => format!(in alloc; "no export {shown_name:?}: "),
-    }?;
-    if exports.is_empty() {
-        text.push_str("there are no exports")?;
-    } else {
-        text.push_str("the exports are ")?;
-        write_exports(&mut text, exports)?;
-    }
+    let mut text = String::new(alloc);
+    write_named(&mut text, exports, name)?;
+    write_list(&mut text, exports)?;
     Ok(text)
 }

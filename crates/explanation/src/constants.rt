@@ -74,23 +74,34 @@ fn apply(
     }
 }
 
-/// Returns the name of the type of a constant expression, or none if it is not constant.
+// Applies the instructions of an expression in turn. Returns whether each is constant and may be applied.
+fn apply_all(
+    constants: Constants<'_>,
+    types: &mut Vec<ValType>,
+    ops: &Expression,
+) -> Result<bool, AllocError> {
+    for k in 0..ops.len() {
+        let is_applied = match plain_op(ops.get(k)) {
+            Some(op) => apply(constants, types, &op)?,
+            None => false,
+        };
+        if !is_applied {
+            return Ok(false);
+        }
+    }
+    Ok(true)
+}
+
+/// Returns the type of a constant expression, or none if it is not constant.
 pub fn constant_type(
     alloc: Global,
     constants: Constants<'_>,
     ops: &Expression,
 ) -> Result<Option<ValType>, AllocError> {
     let mut types = Vec::new(alloc);
-    for k in 0..ops.len() {
-        let Some(op) = plain_op(ops.get(k)) else {
-            return Ok(None);
-        };
-        if !apply(constants, &mut types, &op)? {
-            return Ok(None);
-        }
-    }
+    let is_constant = apply_all(constants, &mut types, ops)?;
     match types.as_slice() {
-        [ty] => Ok(Some(*ty)),
+        [ty] if is_constant => Ok(Some(*ty)),
         _ => Ok(None),
     }
 }

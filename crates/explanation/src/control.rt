@@ -1,7 +1,7 @@
 //! Control instructions.
 
 use crate::contexts::{Context, find_function, find_table, find_type};
-use crate::faults::{Fault, Kind, Stop};
+use crate::faults::{Fault, Kind, Stop, TypeFault, mismatch};
 use crate::operands::{Opener, Stacks};
 use crate::types::{Signature, name_of, reference_type, signature_of_block};
 use core_types::{BlockType, BranchTable, ControlOp, Mark, RefType, ValType, are_same_types};
@@ -31,9 +31,25 @@ fn close(stacks: &mut Stacks<'_>) -> Result<(), Stop> {
     let frame = stacks.close()?;
     let signature = frame.signature;
     if frame.opener == Opener::If && !are_same_types(signature.takes, signature.gives) {
-        return Err(Stop::Fault(Fault::NoElse));
+        return Err(Stop::from(TypeFault::NoElse));
     }
     stacks.push_all(signature.gives)?;
+    Ok(())
+}
+
+fn open_if<'a>(
+    context: Context<'a>,
+    stacks: &mut Stacks<'a>,
+    block: BlockType,
+) -> Result<(), Stop> {
+    stacks.take(ValType::I32)?;
+    open(context, stacks, Opener::If, block)
+}
+
+// Ends the first body of an `if`, and begins the second.
+fn open_else(stacks: &mut Stacks<'_>) -> Result<(), Stop> {
+    let frame = stacks.close()?;
+    stacks.open(Opener::Else, frame.signature)?;
     Ok(())
 }
 
@@ -45,25 +61,22 @@ pub fn check_mark<'a>(
     match mark {
         Mark::Block(block) => open(context, stacks, Opener::Block, block),
         Mark::Loop(block) => open(context, stacks, Opener::Loop, block),
-        Mark::If(block) => {
-            stacks.take(ValType::I32)?;
-            open(context, stacks, Opener::If, block)
-        }
-        Mark::Else => {
-            let frame = stacks.close()?;
-            stacks.open(Opener::Else, frame.signature)?;
-            Ok(())
-        }
+        Mark::If(block) => open_if(context, stacks, block),
+        Mark::Else => open_else(stacks),
         Mark::End => close(stacks),
     }
 }
 
-// Pops what a branch to a label takes, in the order of an instruction that does not continue.
-fn branch(stacks: &mut Stacks<'_>, label: u32) -> Result<(), Stop> {
-    let types = stacks.label(label)?;
+// Pops operands of these types, after which nothing continues.
+fn leave_with(stacks: &mut Stacks<'_>, types: &[ValType]) -> Result<(), Stop> {
     stacks.take_all(types)?;
     stacks.leave();
     Ok(())
+}
+
+fn branch(stacks: &mut Stacks<'_>, label: u32) -> Result<(), Stop> {
+    let types = stacks.label(label)?;
+    leave_with(stacks, types)
 }
 
 fn branch_if(stacks: &mut Stacks<'_>, label: u32) -> Result<(), Stop> {
@@ -84,7 +97,7 @@ fn take_through<'a>(
     let element = find_table(context, table)?;
     if element != RefType::FuncRef {
         let found = name_of(reference_type(element));
-        return Err(Stop::Fault(Fault::Mismatch("a table of funcref", found)));
+        return Err(Stop::Fault(mismatch("a table of funcref", found)));
     }
     let signature = find_type(context, ty)?;
     stacks.take(ValType::I32)?;
@@ -98,11 +111,47 @@ fn call_last<'a>(
     signature: Signature<'a>,
 ) -> Result<(), Stop> {
     if !are_same_types(signature.gives, context.ty.results.as_slice()) {
-        return Err(Stop::Fault(Fault::Results));
+        return Err(Stop::from(TypeFault::Results));
     }
-    stacks.take_all(signature.takes)?;
-    stacks.leave();
-    Ok(())
+    leave_with(stacks, signature.takes)
+}
+
+// Checks a tail call of a function.
+fn return_call<'a>(
+    context: Context<'a>,
+    stacks: &mut Stacks<'a>,
+    function: u32,
+) -> Result<(), Stop> {
+    let signature = find_function(context, function)?;
+    call_last(context, stacks, signature)
+}
+
+// Checks a call of a function.
+fn call<'a>(context: Context<'a>, stacks: &mut Stacks<'a>, function: u32) -> Result<(), Stop> {
+    let signature = find_function(context, function)?;
+    stacks.apply(signature)
+}
+
+// Checks a call through a table.
+fn call_indirect<'a>(
+    context: Context<'a>,
+    stacks: &mut Stacks<'a>,
+    ty: u32,
+    table: u32,
+) -> Result<(), Stop> {
+    let signature = take_through(context, stacks, ty, table)?;
+    stacks.apply(signature)
+}
+
+// Checks a tail call through a table.
+fn return_call_indirect<'a>(
+    context: Context<'a>,
+    stacks: &mut Stacks<'a>,
+    ty: u32,
+    table: u32,
+) -> Result<(), Stop> {
+    let signature = take_through(context, stacks, ty, table)?;
+    call_last(context, stacks, signature)
 }
 
 pub fn check_control<'a>(
@@ -111,31 +160,31 @@ pub fn check_control<'a>(
     op: ControlOp,
 ) -> Result<(), Stop> {
     match op {
-        ControlOp::Unreachable => {
-            stacks.leave();
-            Ok(())
-        }
+        ControlOp::Unreachable => leave_with(stacks, &[]),
         ControlOp::Nop => Ok(()),
         ControlOp::Br(label) => branch(stacks, label),
         ControlOp::BrIf(label) => branch_if(stacks, label),
-        ControlOp::Return => {
-            stacks.take_all(context.ty.results.as_slice())?;
-            stacks.leave();
-            Ok(())
-        }
-        ControlOp::Call(function) => stacks.apply(find_function(context, function)?),
-        ControlOp::CallIndirect { ty, table } => {
-            let signature = take_through(context, stacks, ty, table)?;
-            stacks.apply(signature)
-        }
-        ControlOp::ReturnCall(function) => {
-            call_last(context, stacks, find_function(context, function)?)
-        }
+        ControlOp::Return => leave_with(stacks, context.ty.results.as_slice()),
+        ControlOp::Call(function) => call(context, stacks, function),
+        ControlOp::CallIndirect { ty, table } => call_indirect(context, stacks, ty, table),
+        ControlOp::ReturnCall(function) => return_call(context, stacks, function),
         ControlOp::ReturnCallIndirect { ty, table } => {
-            let signature = take_through(context, stacks, ty, table)?;
-            call_last(context, stacks, signature)
+            return_call_indirect(context, stacks, ty, table)
         }
     }
+}
+
+// Requires that a label takes as many operands as are wanted, and that they are there.
+fn check_label(stacks: &mut Stacks<'_>, label: u32, wanted: usize) -> Result<(), Stop> {
+    let types = stacks.label(label)?;
+    if types.len() != wanted {
+        return Err(Stop::from(TypeFault::Labels(wanted, types.len())));
+    }
+    stacks.look_at(types)?;
+    if stacks.is_too_long() {
+        return Err(Stop::TooLong);
+    }
+    Ok(())
 }
 
 /// Checks a branch by number.
@@ -143,16 +192,7 @@ pub fn check_branch_table(stacks: &mut Stacks<'_>, table: &BranchTable) -> Resul
     stacks.take(ValType::I32)?;
     let wanted = stacks.label(table.default)?;
     for label in table.labels.as_slice() {
-        let types = stacks.label(*label)?;
-        if types.len() != wanted.len() {
-            return Err(Stop::Fault(Fault::Labels(wanted.len(), types.len())));
-        }
-        stacks.look_at(types)?;
-        if stacks.is_too_long() {
-            return Err(Stop::TooLong);
-        }
+        check_label(stacks, *label, wanted.len())?;
     }
-    stacks.take_all(wanted)?;
-    stacks.leave();
-    Ok(())
+    leave_with(stacks, wanted)
 }

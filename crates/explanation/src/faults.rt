@@ -4,7 +4,7 @@ use std::alloc::AllocError;
 use thiserror::Error;
 
 /// What an index is one of.
-#[derive(Clone, Copy, PartialEq, Eq, Debug)]
+#[derive(Clone, Copy, Debug)]
 pub enum Kind {
     Label,
     Local,
@@ -17,24 +17,24 @@ pub enum Kind {
 }
 
 impl Kind {
-    /// Returns the name of the kind.
-    pub fn name(self) -> &'static str {
+    // Returns that nothing has an index of this kind.
+    fn unknown(self) -> &'static str {
         match self {
-            Kind::Label => "label",
-            Kind::Local => "local",
-            Kind::Global => "global",
-            Kind::Function => "function",
-            Kind::Table => "table",
-            Kind::Type => "type",
-            Kind::ElementSegment => "element segment",
-            Kind::DataSegment => "data segment",
+            Kind::Label => "unknown label",
+            Kind::Local => "unknown local",
+            Kind::Global => "unknown global",
+            Kind::Function => "unknown function",
+            Kind::Table => "unknown table",
+            Kind::Type => "unknown type",
+            Kind::ElementSegment => "unknown element segment",
+            Kind::DataSegment => "unknown data segment",
         }
     }
 }
 
-/// What is wrong with an operation.
+/// What is wrong with the types of an operation.
 #[derive(Clone, Copy, Debug, Error)]
-pub enum Fault {
+pub enum TypeFault {
     /// An operand, or what an index stands for, has another type than is expected.
     #[error("expects {0}, found {1}")]
     Mismatch(&'static str, &'static str),
@@ -50,6 +50,19 @@ pub enum Fault {
     /// A tail call is to a function of other results.
     #[error("expects the results of its own function")]
     Results,
+    /// A `select` without a type is of references.
+    #[error("without a type expects i32 or i64, found {0}")]
+    SelectOf(&'static str),
+    /// A `select` has not one type.
+    #[error("expects one type, found {0}")]
+    SelectTypes(usize),
+}
+
+/// What is wrong with an operation.
+#[derive(Clone, Copy, Debug, Error)]
+pub enum Fault {
+    #[error("{0}")]
+    Type(TypeFault),
     /// Nothing has the index, and there are that many.
     #[error("has the index {1}, and there are {2}")]
     Unknown(Kind, u32, usize),
@@ -65,31 +78,19 @@ pub enum Fault {
     /// A function that is referred to is not named outside of bodies.
     #[error("names function {0}, which nothing names outside of bodies")]
     Undeclared(u32),
-    /// A `select` without a type is of references.
-    #[error("without a type expects i32 or i64, found {0}")]
-    SelectOf(&'static str),
-    /// A `select` has not one type.
-    #[error("expects one type, found {0}")]
-    SelectTypes(usize),
+}
+
+/// Returns that one type is expected and another one found.
+pub fn mismatch(expected: &'static str, found: &'static str) -> Fault {
+    Fault::Type(TypeFault::Mismatch(expected, found))
 }
 
 impl Fault {
     /// Returns what kind of fault it is, in a few words.
     pub fn heading(self) -> &'static str {
         match self {
-            Fault::Mismatch(..) | Fault::Left(_) | Fault::Labels(..) => "type mismatch",
-            Fault::NoElse | Fault::Results => "type mismatch",
-            Fault::SelectOf(_) | Fault::SelectTypes(_) => "type mismatch",
-            Fault::Unknown(kind, ..) => match kind {
-                Kind::Label => "unknown label",
-                Kind::Local => "unknown local",
-                Kind::Global => "unknown global",
-                Kind::Function => "unknown function",
-                Kind::Table => "unknown table",
-                Kind::Type => "unknown type",
-                Kind::ElementSegment => "unknown element segment",
-                Kind::DataSegment => "unknown data segment",
-            },
+            Fault::Type(_) => "type mismatch",
+            Fault::Unknown(kind, ..) => kind.unknown(),
             Fault::NoMemory => "unknown memory",
             Fault::Immutable(_) => "immutable global",
             Fault::Alignment(..) => "alignment too large",
@@ -105,6 +106,12 @@ pub enum Stop {
     OutOfMemory,
     /// The check gives up.
     TooLong,
+}
+
+impl From<TypeFault> for Stop {
+    fn from(fault: TypeFault) -> Stop {
+        Stop::Fault(Fault::Type(fault))
+    }
 }
 
 impl From<AllocError> for Stop {

@@ -1,13 +1,13 @@
 //! The names of unsupported types and instructions (Binary Format, Types and Instructions).
 
-use crate::malformations::Malformation;
+use crate::malformations::Unsupported;
 
 /// Returns that a value type of floating-point numbers or vectors is not supported, by its byte.
-pub fn unsupported_type(byte: u8) -> Malformation {
+pub fn unsupported_type(byte: u8) -> Unsupported {
     match byte {
-        0x7D => Malformation::Feature("f32", "floating point"),
-        0x7C => Malformation::Feature("f64", "floating point"),
-        _ => Malformation::Feature("v128", "vectors"),
+        0x7D => Unsupported::Feature("f32", "floating point"),
+        0x7C => Unsupported::Feature("f64", "floating point"),
+        _ => Unsupported::Feature("v128", "vectors"),
     }
 }
 
@@ -115,19 +115,19 @@ fn float_name(opcode: u8) -> Option<&'static str> {
 }
 
 /// Returns that an instruction is not supported, by its opcode.
-pub fn unsupported_instruction(opcode: u8) -> Malformation {
+pub fn unsupported_instruction(opcode: u8) -> Unsupported {
     if let Some(name) = float_name(opcode) {
-        return Malformation::Feature(name, "floating point");
+        return Unsupported::Feature(name, "floating point");
     }
     match opcode {
-        0xFD => Malformation::Feature("opcode 0xfd", "vectors"),
-        0xFE => Malformation::Feature("opcode 0xfe", "threads"),
-        _ => Malformation::Opcode(opcode),
+        0xFD => Unsupported::Feature("opcode 0xfd", "vectors"),
+        0xFE => Unsupported::Feature("opcode 0xfe", "threads"),
+        _ => Unsupported::Opcode(opcode),
     }
 }
 
 /// Returns that an instruction is not supported, by its number after the prefix.
-pub fn unsupported_prefixed(number: u32) -> Malformation {
+pub fn unsupported_prefixed(number: u32) -> Unsupported {
     let name = match number {
         0 => "i32.trunc_sat_f32_s",
         1 => "i32.trunc_sat_f32_u",
@@ -137,7 +137,7 @@ pub fn unsupported_prefixed(number: u32) -> Malformation {
         5 => "i64.trunc_sat_f32_u",
         6 => "i64.trunc_sat_f64_s",
         7 => "i64.trunc_sat_f64_u",
-        _ => return Malformation::Prefixed(number),
+        _ => return Unsupported::Prefixed(number),
     };
-    Malformation::Feature(name, "floating point")
+    Unsupported::Feature(name, "floating point")
 }

@@ -10,7 +10,7 @@ fn read_val_type(reader: &mut Reader<'_>) -> Result<(), Misreading> {
     let offset = reader.offset();
     let cause = match reader.byte()? {
         0x7E | 0x7F | 0x6F | 0x70 => return Ok(()),
-        byte @ 0x7B..=0x7D => unsupported_type(byte),
+        byte @ 0x7B..=0x7D => Malformation::Unsupported(unsupported_type(byte)),
         byte => Malformation::Byte("a value type", byte),
     };
     Err(Misreading { offset, cause })
@@ -116,7 +116,7 @@ fn read_prefixed(reader: &mut Reader<'_>, offset: usize) -> Result<(), Misreadin
         12 | 14 => reader.numbers(2),
         number => Err(Misreading {
             offset,
-            cause: unsupported_prefixed(number),
+            cause: Malformation::Unsupported(unsupported_prefixed(number)),
         }),
     }
 }
@@ -145,7 +145,7 @@ fn read_immediates(reader: &mut Reader<'_>, opcode: u8, offset: usize) -> Result
         0xFC => read_prefixed(reader, offset),
         _ => Err(Misreading {
             offset,
-            cause: unsupported_instruction(opcode),
+            cause: Malformation::Unsupported(unsupported_instruction(opcode)),
         }),
     }
 }
@@ -216,7 +216,7 @@ fn read_form(
     let offset = reader.offset();
     let form = reader.number()?;
     if form >= bound {
-        let cause = Malformation::Number(expected, form);
+        let cause = Malformation::Form(expected, form);
         return Err(Misreading { offset, cause });
     }
     Ok(form)

@@ -4,7 +4,7 @@ use crate::contexts::{
     Context, find_data, find_elements, find_global, find_local, find_table, need_function,
     need_memory,
 };
-use crate::faults::{Fault, Stop};
+use crate::faults::{Fault, Stop, TypeFault, mismatch};
 use crate::operands::Stacks;
 use crate::types::{
     Signature, between_numbers, integer_type, name_of, once, over_i32, reference_type, takes_gives,
@@ -49,8 +49,8 @@ pub fn signature_of_numeric(op: NumericOp) -> Signature<'static> {
 // Checks `ref.is_null`.
 fn check_is_null(stacks: &mut Stacks<'_>) -> Result<(), Stop> {
     match stacks.pop("a reference")? {
-        OperandType::Known(ValType::I32) => Err(Stop::Fault(Fault::Mismatch("a reference", "i32"))),
-        OperandType::Known(ValType::I64) => Err(Stop::Fault(Fault::Mismatch("a reference", "i64"))),
+        OperandType::Known(ValType::I32) => Err(Stop::Fault(mismatch("a reference", "i32"))),
+        OperandType::Known(ValType::I64) => Err(Stop::Fault(mismatch("a reference", "i64"))),
         _ => Ok(stacks.push(ValType::I32)?),
     }
 }
@@ -74,8 +74,10 @@ pub fn check_reference(
 fn take_selected(stacks: &mut Stacks<'_>) -> Result<OperandType, Fault> {
     let operand = stacks.pop("i32 or i64")?;
     match operand {
-        OperandType::Known(ValType::FuncRef) => Err(Fault::SelectOf("funcref")),
-        OperandType::Known(ValType::ExternRef) => Err(Fault::SelectOf("externref")),
+        OperandType::Known(ValType::FuncRef) => Err(Fault::Type(TypeFault::SelectOf("funcref"))),
+        OperandType::Known(ValType::ExternRef) => Err(Fault::Type(TypeFault::SelectOf(
+            "externref",
+        ))),
         _ => Ok(operand),
     }
 }
@@ -107,7 +109,7 @@ pub fn check_parametric(stacks: &mut Stacks<'_>, op: ParametricOp) -> Result<(),
 /// Checks a `select` with a list of types.
 pub fn check_typed_select(stacks: &mut Stacks<'_>, types: &[ValType]) -> Result<(), Stop> {
     let [ty] = types else {
-        return Err(Stop::Fault(Fault::SelectTypes(types.len())));
+        return Err(Stop::from(TypeFault::SelectTypes(types.len())));
     };
     stacks.take(ValType::I32)?;
     stacks.take(*ty)?;
@@ -115,38 +117,76 @@ pub fn check_typed_select(stacks: &mut Stacks<'_>, types: &[ValType]) -> Result<
     Ok(stacks.push(*ty)?)
 }
 
+// Returns the type of a global that may be set.
+fn find_variable(context: Context<'_>, index: u32) -> Result<ValType, Fault> {
+    let global = find_global(context, index)?;
+    match global.mutability {
+        Mutability::Const => Err(Fault::Immutable(index)),
+        Mutability::Var => Ok(global.value),
+    }
+}
+
+// Returns the type that a variable instruction names.
+fn find_named(context: Context<'_>, op: VariableOp) -> Result<ValType, Fault> {
+    match op {
+        VariableOp::LocalGet(x) | VariableOp::LocalSet(x) | VariableOp::LocalTee(x) => {
+            find_local(context, x)
+        }
+        VariableOp::GlobalGet(x) => Ok(find_global(context, x)?.value),
+        VariableOp::GlobalSet(x) => find_variable(context, x),
+    }
+}
+
 pub fn signature_of_variable(
     context: Context<'_>,
     op: VariableOp,
 ) -> Result<Signature<'static>, Fault> {
+    let types = once(find_named(context, op)?);
     match op {
-        VariableOp::LocalGet(x) => Ok(takes_gives(&[], once(find_local(context, x)?))),
-        VariableOp::LocalSet(x) => Ok(takes_gives(once(find_local(context, x)?), &[])),
-        VariableOp::LocalTee(x) => {
-            let ty = find_local(context, x)?;
-            Ok(takes_gives(once(ty), once(ty)))
-        }
-        VariableOp::GlobalGet(x) => Ok(takes_gives(&[], once(find_global(context, x)?.value))),
-        VariableOp::GlobalSet(x) => {
-            let global = find_global(context, x)?;
-            match global.mutability {
-                Mutability::Const => Err(Fault::Immutable(x)),
-                Mutability::Var => Ok(takes_gives(once(global.value), &[])),
-            }
-        }
+        VariableOp::LocalGet(_) | VariableOp::GlobalGet(_) => Ok(takes_gives(&[], types)),
+        VariableOp::LocalSet(_) | VariableOp::GlobalSet(_) => Ok(takes_gives(types, &[])),
+        VariableOp::LocalTee(_) => Ok(takes_gives(types, types)),
     }
 }
 
-// Returns the signature of a copy between references of two types, which are the same.
-fn signature_of_copy(expected: RefType, found: RefType) -> Result<Signature<'static>, Fault> {
-    if expected == found {
-        return Ok(takes_gives(three_numbers(), &[]));
+// Returns the type of references that are copied to where references of a type are, which is the same.
+fn copied(into: RefType, from: RefType) -> Result<RefType, Fault> {
+    if into == from {
+        return Ok(into);
     }
-    let (expected, found) = (reference_type(expected), reference_type(found));
-    Err(Fault::Mismatch(name_of(expected), name_of(found)))
+    let (expected, found) = (reference_type(into), reference_type(from));
+    Err(mismatch(name_of(expected), name_of(found)))
 }
 
-// Returns the signature of an instruction on a table of references of a type.
+// Returns the type of references that are copied from a table to another one.
+fn copied_from_table(context: Context<'_>, target: u32, source: u32) -> Result<RefType, Fault> {
+    let into = find_table(context, target)?;
+    let from = find_table(context, source)?;
+    copied(into, from)
+}
+
+// Returns the type of references that are copied from a segment to a table.
+fn copied_from_segment(context: Context<'_>, table: u32, segment: u32) -> Result<RefType, Fault> {
+    let into = find_table(context, table)?;
+    let from = find_elements(context, segment)?;
+    copied(into, from)
+}
+
+// Returns the type of the references in what a table instruction names.
+fn find_references(context: Context<'_>, op: TableOp) -> Result<RefType, Fault> {
+    match op {
+        TableOp::Get(x)
+        | TableOp::Set(x)
+        | TableOp::Size(x)
+        | TableOp::Grow(x)
+        | TableOp::Fill(x) => find_table(context, x),
+        TableOp::Copy { target, source } => copied_from_table(context, target, source),
+        TableOp::Init { segment, table } => copied_from_segment(context, table, segment),
+        TableOp::ElemDrop(segment) => find_elements(context, segment),
+    }
+}
+
+// Returns the signature of a table instruction on references of a type.
 fn signature_on_table(op: TableOp, element: RefType) -> Signature<'static> {
     match op {
         TableOp::Get(_) => takes_gives(once(ValType::I32), once(reference_type(element))),
@@ -160,25 +200,8 @@ fn signature_on_table(op: TableOp, element: RefType) -> Signature<'static> {
 }
 
 pub fn signature_of_table(context: Context<'_>, op: TableOp) -> Result<Signature<'static>, Fault> {
-    match op {
-        TableOp::Get(x)
-        | TableOp::Set(x)
-        | TableOp::Size(x)
-        | TableOp::Grow(x)
-        | TableOp::Fill(x) => Ok(signature_on_table(op, find_table(context, x)?)),
-        TableOp::Copy { target, source } => {
-            let into = find_table(context, target)?;
-            signature_of_copy(into, find_table(context, source)?)
-        }
-        TableOp::Init { segment, table } => {
-            let into = find_table(context, table)?;
-            signature_of_copy(into, find_elements(context, segment)?)
-        }
-        TableOp::ElemDrop(segment) => {
-            find_elements(context, segment)?;
-            Ok(takes_gives(&[], &[]))
-        }
-    }
+    let element = find_references(context, op)?;
+    Ok(signature_on_table(op, element))
 }
 
 // Returns the type of a load, and the exponent of its size.
@@ -202,16 +225,34 @@ fn store_of(op: StoreOp) -> (ValType, u32) {
     }
 }
 
-// Returns a takes_gives, if the alignment is at most the size of the access.
-fn aligned(
-    memarg: MemArg,
-    size: u32,
-    found: Signature<'static>,
-) -> Result<Signature<'static>, Fault> {
+// Requires that an alignment is at most the size of the access.
+fn need_alignment(memarg: MemArg, size: u32) -> Result<(), Fault> {
     if memarg.align > size {
         return Err(Fault::Alignment(memarg.align, size));
     }
-    Ok(found)
+    Ok(())
+}
+
+// Requires what an instruction on a memory names: the memory, a segment, and an alignment that is allowed.
+fn need_named(context: Context<'_>, op: MemoryOp) -> Result<(), Fault> {
+    match op {
+        MemoryOp::Load(op, memarg) => need_alignment(memarg, load_of(op).1),
+        MemoryOp::Store(op, memarg) => need_alignment(memarg, store_of(op).1),
+        MemoryOp::Init(segment) | MemoryOp::DataDrop(segment) => find_data(context, segment),
+        MemoryOp::Size | MemoryOp::Grow | MemoryOp::Fill | MemoryOp::Copy => Ok(()),
+    }
+}
+
+// Returns the signature of an instruction on a memory.
+fn signature_on_memory(op: MemoryOp) -> Signature<'static> {
+    match op {
+        MemoryOp::Load(op, _) => takes_gives(once(ValType::I32), once(load_of(op).0)),
+        MemoryOp::Store(op, _) => takes_gives(over_i32(store_of(op).0), &[]),
+        MemoryOp::Size => takes_gives(&[], once(ValType::I32)),
+        MemoryOp::Grow => takes_gives(once(ValType::I32), once(ValType::I32)),
+        MemoryOp::Fill | MemoryOp::Copy | MemoryOp::Init(_) => takes_gives(three_numbers(), &[]),
+        MemoryOp::DataDrop(_) => takes_gives(&[], &[]),
+    }
 }
 
 pub fn signature_of_memory(
@@ -222,25 +263,6 @@ pub fn signature_of_memory(
         MemoryOp::DataDrop(_) => {}
         _ => need_memory(context)?,
     }
-    match op {
-        MemoryOp::Load(op, memarg) => {
-            let (ty, size) = load_of(op);
-            aligned(memarg, size, takes_gives(once(ValType::I32), once(ty)))
-        }
-        MemoryOp::Store(op, memarg) => {
-            let (ty, size) = store_of(op);
-            aligned(memarg, size, takes_gives(over_i32(ty), &[]))
-        }
-        MemoryOp::Size => Ok(takes_gives(&[], once(ValType::I32))),
-        MemoryOp::Grow => Ok(takes_gives(once(ValType::I32), once(ValType::I32))),
-        MemoryOp::Fill | MemoryOp::Copy => Ok(takes_gives(three_numbers(), &[])),
-        MemoryOp::Init(segment) => {
-            find_data(context, segment)?;
-            Ok(takes_gives(three_numbers(), &[]))
-        }
-        MemoryOp::DataDrop(segment) => {
-            find_data(context, segment)?;
-            Ok(takes_gives(&[], &[]))
-        }
-    }
+    need_named(context, op)?;
+    Ok(signature_on_memory(op))
 }

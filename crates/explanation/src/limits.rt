@@ -49,21 +49,17 @@ fn arities(alloc: Global, bytes: &[u8]) -> Result<Vec<Arity>, AllocError> {
     Ok(found)
 }
 
-// Returns the first type with too many parameters or results.
-fn explain_types(alloc: Global, types: &[Arity]) -> Result<Option<String>, AllocError> {
+// Returns the index of the first type with too many parameters or results, their number, and which they are.
+fn large_type(types: &[Arity]) -> Option<(usize, u32, &'static str)> {
     for (index, ty) in types.iter().enumerate() {
-        let (count, what) = if ty.params > MAX_VALUES {
-            (ty.params, "parameters")
-        } else {
-            (ty.results, "results")
-        };
-        if count > MAX_VALUES {
-            return Ok(Some(format!(in alloc;
-                "type {index} has {count} {what}, and at most {MAX_VALUES} are allowed"
-            )?));
+        if ty.params > MAX_VALUES {
+            return Some((index, ty.params, "parameters"));
+        }
+        if ty.results > MAX_VALUES {
+            return Some((index, ty.results, "results"));
         }
     }
-    Ok(None)
+    None
 }
 
 // Returns the number of locals in the groups at the start of a body.
@@ -93,18 +89,48 @@ fn split_function<'a>(
     Some((locals.saturating_add(params), indices, skip_sized(bodies)?))
 }
 
-// Returns the index of the first function with too many locals, and their number.
-fn large_function(types: &[Arity], bytes: &[u8]) -> Option<(u32, u64)> {
-    let (_, mut indices) = split_number(from_section(bytes, FUNCTION_SECTION)?)?;
-    let (count, mut bodies) = split_number(from_section(bytes, CODE_SECTION)?)?;
+// Returns the index of the first of that many functions with too many locals, and their number.
+fn first_large<'a>(
+    types: &[Arity],
+    count: u32,
+    mut indices: &'a [u8],
+    mut bodies: &'a [u8],
+) -> Option<(u32, u64)> {
     for index in 0..count {
         let (locals, other_indices, other_bodies) = split_function(types, indices, bodies)?;
         if locals > MAX_LOCALS {
-            return Some((imported_items(bytes, FUNCTION)?.checked_add(index)?, locals));
+            return Some((index, locals));
         }
         (indices, bodies) = (other_indices, other_bodies);
     }
     None
+}
+
+// Returns the index of the first function with too many locals, counted with those that are imported, and their number.
+fn large_function(types: &[Arity], bytes: &[u8]) -> Option<(u32, u64)> {
+    let (_, indices) = split_number(from_section(bytes, FUNCTION_SECTION)?)?;
+    let (count, bodies) = split_number(from_section(bytes, CODE_SECTION)?)?;
+    let (own, locals) = first_large(types, count, indices, bodies)?;
+    Some((imported_items(bytes, FUNCTION)?.checked_add(own)?, locals))
+}
+
+// Returns the text of a type or a function that is too large, if there is one.
+fn explain_items(
+    alloc: Global,
+    types: &[Arity],
+    bytes: &[u8],
+) -> Result<Option<String>, AllocError> {
+    if let Some((index, count, what)) = large_type(types) {
+        return Ok(Some(format!(in alloc;
+            "type {index} has {count} {what}, and at most {MAX_VALUES} are allowed"
+        )?));
+    }
+    match large_function(types, bytes) {
+        Some((index, locals)) => Ok(Some(format!(in alloc;
+            "function {index} has {locals} locals with its parameters, and at most {MAX_LOCALS} are allowed"
+        )?)),
+        None => Ok(None),
+    }
 }
 
 /// Returns which limit a module exceeds, or none if that is not known.
@@ -118,13 +144,5 @@ pub fn explain_limit(alloc: Global, bytes: &[u8]) -> Result<Option<String>, Allo
         return Ok(Some(format!(in alloc; "{size} bytes, and at most {MAX_SIZE} are allowed")?));
     }
     let types = arities(alloc, bytes)?;
-    if let Some(text) = explain_types(alloc, &types)? {
-        return Ok(Some(text));
-    }
-    match large_function(&types, bytes) {
-        Some((index, locals)) => Ok(Some(format!(in alloc;
-            "function {index} has {locals} locals with its parameters, and at most {MAX_LOCALS} are allowed"
-        )?)),
-        None => Ok(None),
-    }
+    explain_items(alloc, &types, bytes)
 }

@@ -1,7 +1,7 @@
 //! Modules that are malformed, or use what is not supported (Binary Format, Modules).
 
 use crate::format::{read_item, read_name};
-use crate::malformations::{Malformation, Misreading};
+use crate::malformations::{Malformation, Misreading, SectionFault};
 use crate::reader::Reader;
 use crate::sections::{FUNCTION, GLOBAL, MEMORY, TABLE, imported_items};
 use std::alloc::{AllocError, Global};
@@ -42,8 +42,9 @@ fn at<T>(place: Place, answer: Result<T, Misreading>) -> Result<T, Located> {
     }
 }
 
-// Returns a fault of the whole module.
-fn fault(offset: usize, cause: Malformation) -> Located {
+// Returns a fault of the sections, which is one of the whole module.
+fn section_fault(offset: usize, fault: SectionFault) -> Located {
+    let cause = Malformation::Sections(fault);
     Located {
         place: Place::Module,
         misreading: Misreading { offset, cause },
@@ -73,31 +74,42 @@ fn rank_of(id: u8) -> u8 {
 }
 
 // Returns what is wrong with the beginning of a section, if something is.
-fn beginning_fault(progress: Progress, id: u8) -> Option<Malformation> {
+fn beginning_fault(progress: Progress, id: u8) -> Option<SectionFault> {
     if id > 12 {
-        return Some(Malformation::UnknownSection(id));
+        return Some(SectionFault::Unknown(id));
     }
     if rank_of(id) <= progress.rank {
-        return Some(Malformation::Misplaced(id));
+        return Some(SectionFault::Misplaced(id));
     }
     if id == 11 && !progress.has_code && progress.functions > 0 {
-        return Some(Malformation::NoCode);
+        return Some(SectionFault::NoCode);
     }
     None
 }
 
-// Reads the items of the section of an id, and returns their number. There are as many bodies as functions.
-fn read_items(content: &mut Reader<'_>, id: u8, functions: u32) -> Result<u32, Located> {
-    let section = Place::Section(id);
+// Reads the number of the items of the section of an id. There are as many bodies as functions.
+fn read_count(content: &mut Reader<'_>, id: u8, functions: u32) -> Result<u32, Located> {
     let offset = content.offset();
-    let count = at(section, content.number())?;
+    let count = at(Place::Section(id), content.number())?;
     if id == 10 && count != functions {
-        return Err(fault(offset, Malformation::Bodies(count, functions)));
+        return Err(section_fault(offset, SectionFault::Bodies(count, functions)));
     }
+    Ok(count)
+}
+
+// Reads that many items of the section of an id.
+fn read_each(content: &mut Reader<'_>, id: u8, count: u32) -> Result<(), Located> {
     for index in 0..count {
         at(Place::Item(id, index), read_item(content, id))?;
     }
-    at(section, content.finish())?;
+    Ok(())
+}
+
+// Reads the items of the section of an id, and returns their number.
+fn read_items(content: &mut Reader<'_>, id: u8, functions: u32) -> Result<u32, Located> {
+    let count = read_count(content, id, functions)?;
+    read_each(content, id, count)?;
+    at(Place::Section(id), content.finish())?;
     Ok(count)
 }
 
@@ -140,48 +152,69 @@ fn read_content(content: &mut Reader<'_>, id: u8, progress: Progress) -> Result<
     }
 }
 
-// Reads a section, and returns what is known then.
-fn read_section(reader: &mut Reader<'_>, progress: Progress) -> Result<Progress, Located> {
-    let offset = reader.offset();
-    let id = at(Place::Module, reader.byte())?;
-    if id == 0 {
-        let mut content = at(Place::Custom, reader.part("file"))?;
-        at(Place::Custom, read_name(&mut content))?;
-        return Ok(progress);
-    }
-    if let Some(cause) = beginning_fault(progress, id) {
-        return Err(fault(offset, cause));
+// Reads a custom section after its id.
+fn read_custom(reader: &mut Reader<'_>) -> Result<(), Located> {
+    let mut content = at(Place::Custom, reader.part("file"))?;
+    at(Place::Custom, read_name(&mut content))
+}
+
+// Reads the section of an id after the id, which is at an offset.
+fn read_known(
+    reader: &mut Reader<'_>,
+    offset: usize,
+    id: u8,
+    progress: Progress,
+) -> Result<Progress, Located> {
+    if let Some(found) = beginning_fault(progress, id) {
+        return Err(section_fault(offset, found));
     }
     let mut content = at(Place::Section(id), reader.part("file"))?;
     read_content(&mut content, id, progress)
 }
 
-// Reads the magic number and the version.
-fn read_header(reader: &mut Reader<'_>) -> Result<(), Located> {
-    for (wanted, cause) in [
-        (&MAGIC, Malformation::Magic),
-        (&VERSION, Malformation::Version),
-    ] {
-        for byte in wanted {
-            let offset = reader.offset();
-            match reader.byte() {
-                Ok(found) if found == *byte => {}
-                _ => return Err(fault(offset, cause)),
-            }
+// Reads a section, and returns what is known then.
+fn read_section(reader: &mut Reader<'_>, progress: Progress) -> Result<Progress, Located> {
+    let offset = reader.offset();
+    match at(Place::Module, reader.byte())? {
+        0 => {
+            read_custom(reader)?;
+            Ok(progress)
+        }
+        id => read_known(reader, offset, id, progress),
+    }
+}
+
+// Reads the bytes that a module begins with.
+fn read_bytes(
+    reader: &mut Reader<'_>,
+    wanted: &[u8],
+    otherwise: SectionFault,
+) -> Result<(), Located> {
+    for byte in wanted {
+        let offset = reader.offset();
+        match reader.byte() {
+            Ok(found) if found == *byte => {}
+            _ => return Err(section_fault(offset, otherwise)),
         }
     }
     Ok(())
 }
 
+// Reads the magic number and the version.
+fn read_header(reader: &mut Reader<'_>) -> Result<(), Located> {
+    read_bytes(reader, &MAGIC, SectionFault::Magic)?;
+    read_bytes(reader, &VERSION, SectionFault::Version)
+}
+
 // Returns what is wrong with the sections of a module together, if something is.
-fn ending_fault(progress: Progress) -> Option<Malformation> {
+fn ending_fault(progress: Progress) -> Option<SectionFault> {
     if !progress.has_code && progress.functions > 0 {
-        return Some(Malformation::NoCode);
+        return Some(SectionFault::NoCode);
     }
     match progress.data_count {
         Some(count) if count == progress.data_segments => None,
-        Some(count) => Some(Malformation::DataCount(count, progress.data_segments)),
-        None => Some(Malformation::NoDataCount),
+        Some(count) => Some(SectionFault::DataCount(count, progress.data_segments)),
+        None => Some(SectionFault::NoDataCount),
     }
 }
 
@@ -203,7 +236,7 @@ fn first_fault(bytes: &[u8], offset: usize) -> Result<(), Located> {
         progress = read_section(&mut reader, progress)?;
     }
     match ending_fault(progress) {
-        Some(cause) => Err(fault(bytes.len(), cause)),
+        Some(found) => Err(section_fault(bytes.len(), found)),
         None => Ok(()),
     }
 }

@@ -1,7 +1,7 @@
 //! The names of functions.
 
 use core_types::{Export, ExportDesc, Module, Name};
-use std::alloc::{AllocError, Global};
+use std::alloc::AllocError;
 
 // The most characters of a name that a text shows.
 const MOST_CHARACTERS: usize = 80;
@@ -26,10 +26,14 @@ fn exported(exports: &[Export], function: u32) -> Option<&Name> {
     None
 }
 
-/// Returns a function with its index, and with the first name under which it is exported, if there is one: `function 3 ("parse")`.
-pub fn function_name(alloc: Global, module: &Module, function: u32) -> Result<String, AllocError> {
+/// Appends a function with its index, and with the first name under which it is exported, if there is one: `function 3 ("parse")`.
+pub fn write_function_name(
+    text: &mut String,
+    module: &Module,
+    function: u32,
+) -> Result<(), AllocError> {
     match exported(module.exports.as_slice(), function) {
-        Some(name) => format!(in alloc; "function {function} ({:?})", shown(name.as_str())),
-        None => format!(in alloc; "function {function}"),
+        Some(name) => write!(text, "function {function} ({:?})", shown(name.as_str())),
+        None => write!(text, "function {function}"),
     }
 }

@@ -1,6 +1,6 @@
 //! The operands and the open bodies of a function (Appendix, Validation Algorithm).
 
-use crate::faults::{Fault, Kind, Stop};
+use crate::faults::{Fault, Kind, Stop, TypeFault, mismatch};
 use crate::types::{Signature, name_of};
 use core_types::{OperandType, ValType};
 use std::alloc::{AllocError, Global};
@@ -108,16 +108,14 @@ impl<'a> Stacks<'a> {
         if frame.is_unreachable {
             return Ok(OperandType::Unknown);
         }
-        Err(Fault::Mismatch(expected, "nothing"))
+        Err(mismatch(expected, "nothing"))
     }
 
     /// Pops an operand of a type.
     pub fn take(&mut self, ty: ValType) -> Result<(), Fault> {
         let expected = name_of(ty);
         match self.pop(expected)? {
-            OperandType::Known(found) if found != ty => {
-                Err(Fault::Mismatch(expected, name_of(found)))
-            }
+            OperandType::Known(found) if found != ty => { Err(mismatch(expected, name_of(found))) }
             _ => Ok(()),
         }
     }
@@ -146,10 +144,10 @@ impl<'a> Stacks<'a> {
         let expected = name_of(ty);
         match self.operand_at(depth) {
             Some(OperandType::Known(found)) if found != ty => {
-                Err(Fault::Mismatch(expected, name_of(found)))
+                Err(mismatch(expected, name_of(found)))
             }
             Some(_) => Ok(()),
-            None => Err(Fault::Mismatch(expected, "nothing")),
+            None => Err(mismatch(expected, "nothing")),
         }
     }
 
@@ -188,7 +186,7 @@ impl<'a> Stacks<'a> {
         self.take_all(frame.signature.gives)?;
         if self.operands.len() > frame.height {
             if let Some(operand) = self.operands.pop() {
-                return Err(Fault::Left(operand_name(operand)));
+                return Err(Fault::Type(TypeFault::Left(operand_name(operand))));
             }
         }
         let _ = self.frames.pop();

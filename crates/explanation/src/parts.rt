@@ -14,24 +14,38 @@ use std::alloc::{AllocError, Global};
 use std::collections::BTreeMap;
 use thiserror::Error;
 
-/// What is wrong with a part of a module.
+// What is wrong with limits.
+#[derive(Clone, Copy, Debug, Error)]
+enum LimitsFault {
+    #[error("minimum {0} is above the maximum {1}")]
+    Minimum(u32, u32),
+    #[error("{0} {1} pages, the maximum is 65536")]
+    Pages(&'static str, u32),
+}
+
+// What is wrong with a constant expression of a name.
+#[derive(Clone, Copy, Debug, Error)]
+enum ExpressionFault {
+    #[error("{0} is no constant expression of type {1}")]
+    NotConstant(&'static str, &'static str),
+    #[error("{0} has type {1}, expected {2}")]
+    Type(&'static str, &'static str, &'static str),
+}
+
+// What is wrong with a part of a module.
 #[derive(Clone, Copy, Debug, Error)]
 enum PartFault {
     /// What is named is not there, and there are that many.
     #[error("{0} {1} is not there, and there are {2}")]
     Missing(&'static str, u32, usize),
-    #[error("minimum {0} is above the maximum {1}")]
-    Minimum(u32, u32),
-    #[error("{0} {1} pages, the maximum is 65536")]
-    Pages(&'static str, u32),
+    #[error("{0}")]
+    Limits(LimitsFault),
     #[error("at most one memory is allowed")]
     SecondMemory,
     #[error("duplicate name")]
     Duplicate,
-    #[error("{0} is no constant expression of type {1}")]
-    NotConstant(&'static str, &'static str),
-    #[error("{0} has type {1}, expected {2}")]
-    Constant(&'static str, &'static str, &'static str),
+    #[error("{0}")]
+    Expression(ExpressionFault),
     #[error("references of type {0}, and table {1} has {2}")]
     Table(&'static str, u32, &'static str),
 }
@@ -39,20 +53,21 @@ enum PartFault {
 // Returns what is wrong with limits.
 fn limits_fault(limits: Limits) -> Option<PartFault> {
     match limits.max {
-        Some(max) if max < limits.min => Some(PartFault::Minimum(limits.min, max)),
+        Some(max) if max < limits.min => Some(PartFault::Limits(LimitsFault::Minimum(
+            limits.min, max,
+        ))),
         _ => None,
     }
 }
 
 // Returns what is wrong with the limits of a memory.
 fn pages_fault(limits: Limits) -> Option<PartFault> {
-    if limits.min > MAX_PAGES {
-        return Some(PartFault::Pages("minimum", limits.min));
-    }
-    match limits.max {
-        Some(max) if max > MAX_PAGES => Some(PartFault::Pages("maximum", max)),
-        _ => limits_fault(limits),
-    }
+    let (bound, pages) = match limits.max {
+        _ if limits.min > MAX_PAGES => ("minimum", limits.min),
+        Some(max) if max > MAX_PAGES => ("maximum", max),
+        _ => return limits_fault(limits),
+    };
+    Some(PartFault::Limits(LimitsFault::Pages(bound, pages)))
 }
 
 // Returns that nothing has an index, if nothing has.
@@ -118,10 +133,11 @@ fn expression_fault(
     fault: Option<ConstantFault>,
 ) -> Option<PartFault> {
     let expected = name_of(expected);
-    match fault? {
-        ConstantFault::NotConstant => Some(PartFault::NotConstant(name, expected)),
-        ConstantFault::OfType(found) => Some(PartFault::Constant(name, found, expected)),
-    }
+    let fault = match fault? {
+        ConstantFault::NotConstant => ExpressionFault::NotConstant(name, expected),
+        ConstantFault::OfType(found) => ExpressionFault::Type(name, found, expected),
+    };
+    Some(PartFault::Expression(fault))
 }
 
 fn first_global_fault(
@@ -360,12 +376,56 @@ fn item_text(
     Ok(Some(format!(in alloc; "{kind} {index}: {fault}")?))
 }
 
-// Returns what is wrong with the memories of a module, if something is.
+// Returns what is wrong with the memories of a module, of which that many are imported.
 fn memories_fault(module: &Module, imported: usize) -> Option<(usize, PartFault)> {
     match first_memory_fault(module) {
         Some(found) => Some(found),
         None => Some((1_usize.saturating_sub(imported), PartFault::SecondMemory)),
     }
+}
+
+// Returns what the items of the section of an id are, and how many are imported before them.
+fn items_of(constants: Constants<'_>, id: u8) -> (&'static str, usize) {
+    let (module, spaces) = (constants.module, constants.spaces);
+    let (kind, all, own) = match id {
+        3 => ("function", spaces.functions.len(), module.funcs.len()),
+        4 => ("table", spaces.tables.len(), module.tables.len()),
+        5 => ("memory", spaces.memories.len(), module.memories.len()),
+        6 => ("global", spaces.globals.len(), module.globals.len()),
+        9 => ("element segment", 0, 0),
+        _ => ("data segment", 0, 0),
+    };
+    (kind, all.saturating_sub(own))
+}
+
+// Returns the first fault of the section of an id.
+fn first_fault(
+    alloc: Global,
+    constants: Constants<'_>,
+    id: u8,
+    imported: usize,
+) -> Result<Option<(usize, PartFault)>, AllocError> {
+    let module = constants.module;
+    match id {
+        3 => Ok(first_type_missing(module.types.len(), module.funcs.as_slice())),
+        4 => Ok(first_table_fault(module)),
+        5 => Ok(memories_fault(module, imported)),
+        6 => first_global_fault(alloc, constants),
+        9 => first_element_fault(alloc, constants),
+        11 => first_data_fault(alloc, constants),
+        _ => Ok(None),
+    }
+}
+
+// Returns why a section of items that have no name is not valid.
+fn explain_items(
+    alloc: Global,
+    constants: Constants<'_>,
+    id: u8,
+) -> Result<Option<String>, AllocError> {
+    let (kind, imported) = items_of(constants, id);
+    let found = first_fault(alloc, constants, id, imported)?;
+    item_text(alloc, kind, imported, found)
 }
 
 /// Returns why a section of a module is not valid, by its id, or none if that is not known.
@@ -379,25 +439,10 @@ pub fn explain_section(
     id: u8,
 ) -> Result<Option<String>, AllocError> {
     let spaces = &IndexSpaces::new(alloc, module)?;
-    let constants = Constants { module, spaces };
-    let functions = spaces.functions.len().saturating_sub(module.funcs.len());
-    let tables = spaces.tables.len().saturating_sub(module.tables.len());
-    let memories = spaces.memories.len().saturating_sub(module.memories.len());
-    let globals = spaces.globals.len().saturating_sub(module.globals.len());
-    let (kind, imported, found) = match id {
-        2 => return explain_imports(alloc, module),
-        3 => {
-            let found = first_type_missing(module.types.len(), module.funcs.as_slice());
-            ("function", functions, found)
-        }
-        4 => ("table", tables, first_table_fault(module)),
-        5 => ("memory", memories, memories_fault(module, memories)),
-        6 => ("global", globals, first_global_fault(alloc, constants)?),
-        7 => return explain_exports(alloc, module.exports.as_slice(), spaces),
-        8 => return explain_start(alloc, module, spaces),
-        9 => ("element segment", 0, first_element_fault(alloc, constants)?),
-        11 => ("data segment", 0, first_data_fault(alloc, constants)?),
-        _ => return Ok(None),
-    };
-    item_text(alloc, kind, imported, found)
+    match id {
+        2 => explain_imports(alloc, module),
+        7 => explain_exports(alloc, module.exports.as_slice(), spaces),
+        8 => explain_start(alloc, module, spaces),
+        _ => explain_items(alloc, Constants { module, spaces }, id),
+    }
 }

@@ -1,6 +1,6 @@
 //! A reader that says why it fails.
 
-use crate::malformations::{Malformation, Misreading};
+use crate::malformations::{Malformation, Misreading, NumberFault};
 use leb::{read_s32, read_s33, read_s64, read_u32};
 
 /// A reader of bytes, from left to right, up to the place of a fault that is known.
@@ -13,15 +13,15 @@ pub struct Reader<'a> {
 }
 
 // Returns why a number at the start of bytes cannot be read that takes at most so many bytes.
-fn number_fault(bytes: &[u8], most: usize) -> Malformation {
+fn number_fault(bytes: &[u8], most: usize) -> NumberFault {
     for k in 0..most {
         match bytes.get(k) {
-            None => return Malformation::End,
-            Some(byte) if *byte < 0x80 => return Malformation::TooLarge,
+            None => return NumberFault::End,
+            Some(byte) if *byte < 0x80 => return NumberFault::TooLarge,
             Some(_) => {}
         }
     }
-    Malformation::TooLong
+    NumberFault::TooLong
 }
 
 impl<'a> Reader<'a> {
@@ -60,7 +60,7 @@ impl<'a> Reader<'a> {
     fn number_fault(&self, most: usize) -> Misreading {
         Misreading {
             offset: self.offset,
-            cause: number_fault(self.rest(), most),
+            cause: Malformation::Number(number_fault(self.rest(), most)),
         }
     }
 
@@ -78,7 +78,7 @@ impl<'a> Reader<'a> {
     pub fn ended(&self) -> Misreading {
         Misreading {
             offset: self.offset,
-            cause: Malformation::End,
+            cause: Malformation::Number(NumberFault::End),
         }
     }
 
@@ -143,7 +143,7 @@ impl<'a> Reader<'a> {
             }
             Some(_) => Err(Misreading {
                 offset: self.offset,
-                cause: Malformation::TooLarge,
+                cause: Malformation::Number(NumberFault::TooLarge),
             }),
             None => Err(self.number_fault(5)),
         }

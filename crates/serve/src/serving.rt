@@ -134,14 +134,14 @@ enum LastOrder {
     TooLarge(u64),
 }
 
-// Returns the order of a kind as the last one, with its answer.
-fn last_order(kind: u64, answer: Answer) -> LastOrder {
+// Makes the order of a kind the last one, with its answer.
+fn note_order(last: &mut LastOrder, kind: u64, answer: Answer) {
     match answer {
-        Answer::Refused(cause) => LastOrder::Refused(kind, cause),
+        Answer::Refused(cause) => *last = LastOrder::Refused(kind, cause),
         Answer::Applied(Reply::Refused(refusal)) => {
-            LastOrder::Refused(kind, Cause::Command(refusal))
+            *last = LastOrder::Refused(kind, Cause::Command(refusal));
         }
-        _ => LastOrder::Answered,
+        _ => *last = LastOrder::Answered,
     }
 }
 
@@ -169,39 +169,38 @@ fn answer_explain(alloc: Global, last: &LastOrder, fields: &[u8], embedding: &Em
     }
 }
 
-// Answers the next message, after a last order. Returns the last order then, or none after the end.
+// Answers the next message, and makes it the last order, if it is one. Returns whether more are to follow.
 fn serve_message(
     alloc: Global,
     client: &mut Client,
     embedding: &mut Embedding,
     files: &mut Vec<(String, Vec<u8>)>,
-    last: LastOrder,
-) -> Result<Option<LastOrder>, Ending>
+    last: &mut LastOrder,
+) -> Result<bool, Ending>
     requires nothing { Unit {0} }
 {
     match client.receive()? {
         Received::Order(kind) => {
             let answer = answer_order(alloc, kind, client.fields(), embedding, files);
             client.send(&answer)?;
-            if kind == END && matches!(&answer, Answer::Done) {
-                return Ok(None);
-            }
-            Ok(Some(last_order(kind, answer)))
+            let is_over = kind == END && matches!(&answer, Answer::Done);
+            note_order(last, kind, answer);
+            return Ok(!is_over);
         }
         Received::Explain => {
-            let answer = answer_explain(alloc, &last, client.fields(), embedding);
+            let answer = answer_explain(alloc, last, client.fields(), embedding);
             client.send(&answer)?;
-            Ok(Some(last))
         }
         Received::TooLarge(size) => {
             client.send(&refused(Refusal::Limit))?;
-            Ok(Some(LastOrder::TooLarge(size)))
+            *last = LastOrder::TooLarge(size);
         }
         Received::OutOfMemory => {
             client.send(&refused(Refusal::OutOfMemory))?;
-            Ok(Some(LastOrder::Refused(END, Cause::Command(Refusal::OutOfMemory))))
+            *last = LastOrder::Refused(END, Cause::Command(Refusal::OutOfMemory));
         }
     }
+    Ok(true)
 }
 
 // Answers messages until the end.
@@ -215,9 +214,8 @@ fn serve_embedding(
     let mut files = Vec::new(alloc);
     let mut last = LastOrder::Answered;
     for _ in 0..u64::MAX {
-        match serve_message(alloc, client, embedding, &mut files, last)? {
-            Some(next) => last = next,
-            None => return Ok(()),
+        if !serve_message(alloc, client, embedding, &mut files, &mut last)? {
+            return Ok(());
         }
     }
     Ok(())

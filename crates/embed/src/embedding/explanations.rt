@@ -171,8 +171,10 @@ impl Embedding {
         }
     }
 
-    /// Returns why a link had a refusal: the import at fault, with its type, and what there is in its place. If the link is not
-    /// refused so, the text is the short one of the refusal.
+    /// Returns why a link had a refusal: the import at fault, with its type, and what there is in its place, or the memory or table
+    /// that exceeds a bound. Another refusal, or one whose fault is not found, gets its short text.
+    ///
+    /// The refusal must be the one that the engine answered. Whether the link would be refused so is not checked.
     ///
     /// # Errors
     ///
@@ -189,8 +191,10 @@ impl Embedding {
         }
     }
 
-    /// Returns why a call had a refusal: the argument at fault, or what the instance exports. If the call is not refused so, the
-    /// text is the short one of the refusal.
+    /// Returns why a call had a refusal: the argument at fault, or what the instance exports. Another refusal, or one whose fault is
+    /// not found, gets its short text.
+    ///
+    /// The refusal must be the one that the engine answered. Whether the call would be refused so is not checked.
     ///
     /// # Errors
     ///
@@ -212,8 +216,10 @@ impl Embedding {
         }
     }
 
-    /// Returns why a use of an export had a refusal: what the export is, if it exists, and what the instance exports. If the use
-    /// is not refused for the export, the text is the short one of the refusal.
+    /// Returns why a use of an export had a refusal: what the export is, if it exists, and what the instance exports. Another
+    /// refusal, or an unknown export that exists, gets its short text.
+    ///
+    /// The refusal must be the one that the engine answered. Which kind the use needs is not checked.
     ///
     /// # Errors
     ///
@@ -238,10 +244,10 @@ impl Embedding {
     }
 
     /// Returns why a command had a refusal, in words for those who make modules and those who call them. Names in the text are
-    /// escaped and cut at 80 characters, and it has no line break. If the command is not refused so, the text is the short one of
-    /// the refusal.
+    /// escaped and cut at 80 characters, and it has no line break. If no fault is found that the refusal names, the text is its
+    /// short one.
     ///
-    /// The embedding must be as it was when the command was refused: a refused command changes nothing.
+    /// The refusal must be the one that the engine answered, and the embedding as it was then: a refused command changes nothing.
     ///
     /// # Errors
     ///
