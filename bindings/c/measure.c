@@ -1,4 +1,5 @@
-/* Prints what calls cost: the best of several rounds. */
+/* Prints what calls cost: the best of several rounds. With arguments, `measure NAME TIMES` only does what is measured, that many times. So the
+ * instructions that two runs take tell what each costs. */
 #define _POSIX_C_SOURCE 199309L
 #include "tegvurn.h"
 #include "test_module.h"
@@ -91,26 +92,61 @@ static double load_once(const uint8_t *module, size_t size) {
   return time;
 }
 
-static double least(double one, double other) { return one < other ? one : other; }
-
-int main(void) {
-  static uint8_t module[FUNCTIONS * (GROUPS * 6 + 20)];
-  size_t size = spell_large(module);
-  double empty = 1e18, ask = 1e18, loop = 1e18, loading = 1e18, start;
+/* Creates an embedding with an instance of the test module, which has the number 0. */
+static tegvurn *linked_embedding(void) {
   tegvurn *embedding = embedding_of();
   uint64_t number;
   need(tegvurn_load(embedding, test_module, sizeof test_module, &number));
   need(tegvurn_link(embedding, number, &number));
+  return embedding;
+}
+
+static void call_empty(tegvurn *embedding, int times) { call_often(embedding, "empty", 0, 0, 0, times); }
+
+static void call_ask(tegvurn *embedding, int times) { call_often(embedding, "ask", 1, 5, 1, times); }
+
+static void call_back(tegvurn *embedding, int times) { call_often(embedding, "loop", 1, (uint32_t)times, 0, 1); }
+
+/* Returns the nanoseconds that each of many calls takes. */
+static double time_of(void calls(tegvurn *, int), tegvurn *embedding) {
+  double start = now();
+  calls(embedding, CALLS);
+  return (now() - start) / CALLS;
+}
+
+/* Does what has this name that many times. Returns the status of the program. */
+static int repeat(const char *name, int times, const uint8_t *module, size_t size) {
+  static const struct {
+    const char *name;
+    void (*calls)(tegvurn *, int);
+  } calls[] = {{"empty", call_empty}, {"ask", call_ask}, {"loop", call_back}};
+  if (!strcmp(name, "load")) {
+    for (int i = 0; i < times; i++) load_once(module, size);
+    return 0;
+  }
+  for (size_t i = 0; i < sizeof calls / sizeof *calls; i++) {
+    if (strcmp(name, calls[i].name)) continue;
+    tegvurn *embedding = linked_embedding();
+    calls[i].calls(embedding, times);
+    tegvurn_free(embedding);
+    return 0;
+  }
+  fprintf(stderr, "measure: nothing has the name %s\n", name);
+  return 1;
+}
+
+static double least(double one, double other) { return one < other ? one : other; }
+
+int main(int count, char **words) {
+  static uint8_t module[FUNCTIONS * (GROUPS * 6 + 20)];
+  size_t size = spell_large(module);
+  if (count == 3) return repeat(words[1], atoi(words[2]), module, size);
+  double empty = 1e18, ask = 1e18, loop = 1e18, loading = 1e18;
+  tegvurn *embedding = linked_embedding();
   for (int round = 0; round < ROUNDS; round++) {
-    start = now();
-    call_often(embedding, "empty", 0, 0, 0, CALLS);
-    empty = least(empty, (now() - start) / CALLS);
-    start = now();
-    call_often(embedding, "ask", 1, 5, 1, CALLS);
-    ask = least(ask, (now() - start) / CALLS);
-    start = now();
-    call_often(embedding, "loop", 1, CALLS, 0, 1);
-    loop = least(loop, (now() - start) / CALLS);
+    empty = least(empty, time_of(call_empty, embedding));
+    ask = least(ask, time_of(call_ask, embedding));
+    loop = least(loop, time_of(call_back, embedding));
     loading = least(loading, load_once(module, size));
   }
   tegvurn_free(embedding);

@@ -134,14 +134,22 @@ enum LastOrder {
     TooLarge(u64),
 }
 
-// Makes the order of a kind the last one, with its answer.
-fn note_order(last: &mut LastOrder, kind: u64, answer: Answer) {
+// Returns whether an answer is that the order is refused.
+fn is_refusal(answer: &Answer) -> bool {
+    matches!(
+        answer,
+        Answer::Refused(_) | Answer::Applied(Reply::Refused(_))
+    )
+}
+
+// Returns the order of a kind as the last one, with its answer.
+fn last_order(kind: u64, answer: Answer) -> LastOrder {
     match answer {
-        Answer::Refused(cause) => *last = LastOrder::Refused(kind, cause),
+        Answer::Refused(cause) => LastOrder::Refused(kind, cause),
         Answer::Applied(Reply::Refused(refusal)) => {
-            *last = LastOrder::Refused(kind, Cause::Command(refusal));
+            LastOrder::Refused(kind, Cause::Command(refusal))
         }
-        _ => *last = LastOrder::Answered,
+        _ => LastOrder::Answered,
     }
 }
 
@@ -184,7 +192,10 @@ fn serve_message(
             let answer = answer_order(alloc, kind, client.fields(), embedding, files);
             client.send(&answer)?;
             let is_over = kind == END && matches!(&answer, Answer::Done);
-            note_order(last, kind, answer);
+            // most orders are not refused, and nothing is moved for them
+            if is_refusal(&answer) || !matches!(last, LastOrder::Answered) {
+                *last = last_order(kind, answer);
+            }
             return Ok(!is_over);
         }
         Received::Explain => {
