@@ -3,4 +3,5 @@ pub mod Values
 pub mod Code
 pub mod Custom
 pub mod DataNames
+pub mod Bodies
 pub mod Expressions

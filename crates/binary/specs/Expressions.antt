@@ -1,13 +1,15 @@
 -- Reading expressions.
-use Rattle.std.specs.Prelude.{◌≡◌, ◌≤◌, Bool, true, false, Err, IfErr, List, OnOk, None, Ok, Option, Result, Some, [], length, suc, zero, ℕ, ◌++◌, ◌∷◌}
+use Rattle.std.specs.Prelude.{◌≡◌, ◌≤◌, Bool, Err, List, None, Ok, Option, Result, Some, [], length, suc, zero, ℕ, ◌++◌, ◌∷◌, ◌||◌}
+use Rattle.std.specs.List.{list_any}
 use Rattle.core_types.specs.declared.op.Op.{Op}
 use Rattle.core_types.specs.declared.op.Op.TheVariants.{Block, Else, End, If, Loop, Plain}
-use Rattle.binary.specs.Conventions.{OnRead, Reading, ◌>>=◌}
+use Rattle.core_types.specs.reading.Conventions.{Reading, ◌>>=◌}
+use Rattle.core_types.specs.reading.Instructions.{op_at}
+use Rattle.meaning.specs.binary.Modules.{names_data}
 use Rattle.binary.specs.Errors.{OnRefused}
 use Rattle.binary.specs.declared.errors.DecodeError.{DecodeError}
-use Rattle.binary.specs.Instructions.{op_at}
 use Rattle.binary.specs.declared.expressions.Flow.{Flow}
-use Rattle.binary.specs.declared.expressions.Flow.TheVariants.{Ended, Misplaced, Continues}
+use Rattle.binary.specs.declared.expressions.Flow.TheVariants.{Continues, Ended, Misplaced}
 use Rattle.binary.specs.declared.expressions.OpenBody.{OpenBody}
 use Rattle.binary.specs.declared.expressions.OpenBody.TheVariants.{InBlock, InIf}
 
@@ -18,32 +20,10 @@ next_bodies bodies (Block type) = (Continues, InBlock ∷ bodies)
 next_bodies bodies (Loop type) = (Continues, InBlock ∷ bodies)
 next_bodies bodies (If type) = (Continues, InIf ∷ bodies)
 next_bodies [] Else = (Misplaced, [])
-next_bodies (InBlock ∷ bodies) Else = (Misplaced, InBlock ∷ bodies)
+next_bodies (InBlock ∷ bodies) Else = (Misplaced, bodies)
 next_bodies (InIf ∷ bodies) Else = (Continues, InBlock ∷ bodies)
 next_bodies [] End = (Ended, [])
 next_bodies (body ∷ bodies) End = (Continues, bodies)
-
--- The operations after another one was read. The last end is not one of them.
-abbrev pub after_next : Flow → List Op → Op → List Op
-after_next Continues ops op = ops ++ op ∷ []
-after_next Ended ops op = ops
-after_next Misplaced ops op = ops
-
--- An operation is read, with this effect on the expression, its open bodies and its operations.
-abbrev pub ReadsNext : Result Flow DecodeError → (bodies bodies' : List OpenBody)
-    → (ops ops' : List Op) → (rest : List ℕ) → Option (Op × List ℕ) → Type 0
-ReadsNext (Ok next) bodies bodies' ops ops' rest read =
-    OnRead read (λ op left. (left ≡ rest) × (next_bodies bodies op ≡ (next, bodies'))
-    × (ops' ≡ after_next next ops op))
-ReadsNext (Err error) bodies bodies' ops ops' rest read = OnRefused error (read ≡ None)
-
--- An operation that is not a mark is read and appended to the others, unless it is left to read.
-abbrev pub ReadsFrequent : Result Bool DecodeError → (ops ops' : List Op) → (bytes rest : List ℕ)
-    → Option (Op × List ℕ) → Type 0
-ReadsFrequent (Ok true) ops ops' bytes rest read =
-    (bodies : List OpenBody) → ReadsNext (Ok Continues) bodies bodies ops ops' rest read
-ReadsFrequent (Ok false) ops ops' bytes rest read = (ops' ≡ ops) × (rest ≡ bytes)
-ReadsFrequent (Err error) ops ops' bytes rest read = OnRefused error (read ≡ None)
 
 -- The value for the result of the next operation.
 abbrev pub on_next : {V : Type 0} → Flow → Option V → Option V → Option V
@@ -71,10 +51,19 @@ pub record IsReadingExpression (whole rest : List ℕ) (open_bodies : List OpenB
   pub enough : length rest ≤ steps
   pub so_far : ops_at steps open_bodies ops rest ≡ expression_at whole
 
--- Whatever expression is being read, it still is after some more operations, which are not marks.
-abbrev pub ReadsRow : Result (Unit {0}) DecodeError → (ops ops' : List Op) → (bytes rest : List ℕ)
-    → Type 0
-ReadsRow result ops ops' bytes rest =
-    (whole : List ℕ) (bodies : List OpenBody) → IsReadingExpression whole bytes bodies ops
-    → OnOk result (IsReadingExpression whole rest bodies ops')
-    × IfErr result (λ error. OnRefused error (expression_at whole ≡ None))
+-- An operation is skipped, with this effect on the expression and its open bodies, and it is noted if it names a data segment.
+abbrev pub SkipsOperation : Result Flow DecodeError → (bytes rest : List ℕ)
+    → (bodies bodies' : List OpenBody) → (before noted : Bool) → Type 0
+SkipsOperation (Ok flow) bytes rest bodies bodies' before noted =
+    (op : Op) × (op_at bytes ≡ Some (op, rest)) × (next_bodies bodies op ≡ (flow, bodies'))
+    × (noted ≡ (before || names_data op))
+SkipsOperation (Err error) bytes rest bodies bodies' before noted =
+    OnRefused error (op_at bytes ≡ None)
+
+-- The operations of an expression are skipped, and it is noted if one of them names a data segment.
+abbrev pub SkipsExpression : Result (Unit {0}) DecodeError → (bytes rest : List ℕ)
+    → (before noted : Bool) → Type 0
+SkipsExpression (Ok done) bytes rest before noted =
+    (ops : List Op) × (expression_at bytes ≡ Some (ops, rest))
+    × (noted ≡ (before || list_any names_data ops))
+SkipsExpression (Err error) bytes rest before noted = OnRefused error (expression_at bytes ≡ None)

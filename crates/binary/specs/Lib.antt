@@ -1,7 +1,6 @@
 pub mod Conventions
 pub mod Values
 pub mod Types
-pub mod Instructions
 pub mod Expressions
 pub mod Sections
 pub mod Modules

@@ -10,10 +10,10 @@ use Rattle.core_types.specs.declared.module.Module.{Module}
 use Rattle.core_types.specs.declared.types.FuncType.{FuncType}
 use Rattle.core_types.specs.declared.types.Limits.{Limits}
 use Rattle.core_types.specs.declared.types.TableType.{TableType}
-use Rattle.binary.specs.Conventions.{Reading, mapped_at, ◌>>=◌}
+use Rattle.core_types.specs.reading.Conventions.{Reading, mapped_at, ◌>>=◌}
 use Rattle.binary.specs.Sections.{code_section_at, data_at, element_at, end_at, export_at, global_at, import_at, value_section_at, vector_section_at}
 use Rattle.binary.specs.Types.{func_type_at, limits_at, table_type_at}
-use Rattle.binary.specs.Values.{expected_at, unsigned_at}
+use Rattle.core_types.specs.reading.Values.{expected_at, unsigned_at}
 use Rattle.binary.specs.declared.modules.Contents.{Contents}
 use Rattle.binary.specs.declared.modules.Definitions.{Definitions}
 

@@ -1,5 +1,5 @@
 -- Reading sections and their contents.
-use Rattle.std.specs.Prelude.{All, Bool, List, None, Option, Some, [], drop, false, if◌then◌else◌, length, nat_lt, replicate, suc, zero, ℕ, ◌++◌, ◌+◌, ◌==◌, ◌^◌, ◌∷◌, ◌≡◌}
+use Rattle.std.specs.Prelude.{Bool, List, None, Option, Some, [], drop, if◌then◌else◌, length, nat_lt, replicate, suc, zero, ℕ, ◌++◌, ◌+◌, ◌==◌, ◌^◌, ◌∷◌}
 use Rattle.core_types.specs.declared.module.DataMode.TheVariants as data_mode
 use Rattle.core_types.specs.declared.module.DataSegment.{DataSegment}
 use Rattle.core_types.specs.declared.module.ElementItems.TheVariants.{Expressions, Functions}
@@ -19,11 +19,14 @@ use Rattle.core_types.specs.declared.types.RefType.{RefType}
 use Rattle.core_types.specs.declared.types.RefType.TheVariants.{FuncRef}
 use Rattle.core_types.specs.declared.types.ValType.{ValType}
 use Rattle.meaning.specs.binary.Modules.{data_segment, element}
-use Rattle.binary.specs.Conventions.{Cases, Reading, case_at, chosen_at, mapped_at, no_case, pair_at, up_to, ◌>>=◌}
+use Rattle.core_types.specs.reading.Conventions.{Cases, Reading, case_at, chosen_at, mapped_at, no_case, pair_at, up_to, ◌>>=◌}
 use Rattle.binary.specs.Expressions.{expression_at}
-use Rattle.binary.specs.Instructions.{NameNoData}
-use Rattle.binary.specs.Types.{global_type_at, limits_at, ref_type_at, table_type_at, val_type_at}
-use Rattle.binary.specs.Values.{begins_with, byte_at, index_at, name_at, part_at, sized_at, unsigned_at, vector_at}
+use Rattle.std.specs.List.{list_any}
+use Rattle.meaning.specs.binary.Modules.{names_data}
+use Rattle.core_types.specs.reading.Types.{ref_type_at, val_type_at}
+use Rattle.binary.specs.Types.{global_type_at, limits_at, table_type_at}
+use Rattle.core_types.specs.reading.Values.{begins_with, byte_at, index_at, unsigned_at, vector_at}
+use Rattle.binary.specs.Values.{name_at, part_at, sized_at}
 
 unfoldable pub local_group_at : Reading (ℕ × ValType)
 local_group_at bytes = do
@@ -218,6 +221,6 @@ end_at bytes = do
   customs ← after_customs bytes
   if length customs.1 == 0 then Some (tt, customs.1) else None
 
--- What is noted of functions. If it is false, none of their code names a data segment.
-abbrev pub NotesDataOfAll : Bool → List Function → Type 0
-NotesDataOfAll noted funcs = noted ≡ false → All (λ (f : Function). NameNoData f.body) funcs
+-- Whether the code of a function names a data segment.
+abbrev pub name_data : List Function → Bool
+name_data funcs = list_any (λ (f : Function). list_any names_data f.body) funcs

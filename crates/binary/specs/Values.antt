@@ -1,68 +1,19 @@
 -- Reading bytes, integers, vectors and names.
-use Rattle.std.specs.Prelude.{Bool, List, None, Some, [], drop, false, if◌then◌else◌, length, nat_le, nat_lt, negsuc, pos, suc, take, zero, ℕ, ℤ, ◌*ℤ◌, ◌*◌, ◌++◌, ◌+ℤ◌, ◌+◌, ◌-◌, ◌==◌, ◌^◌, ◌∷◌}
+use Rattle.std.specs.Prelude.{List, None, Option, Some, [], ◌∷◌, drop, if◌then◌else◌, length, nat_lt, take, ℕ, ◌==◌}
 use Rattle.std.specs.Str.{is_utf8}
-use Rattle.binary.specs.Conventions.{Reading, ◌>>=◌}
+use Rattle.core_types.specs.reading.Conventions.{Reading, ◌>>=◌}
+use Rattle.core_types.specs.reading.Values.{unsigned_at}
 
-abbrev pub byte_at : Reading ℕ
-byte_at [] = None
-byte_at (byte ∷ bytes) = Some (byte, bytes)
-
--- Whether the bytes begin with this one.
-abbrev pub begins_with : ℕ → List ℕ → Bool
-begins_with expected [] = false
-begins_with expected (byte ∷ bytes) = byte == expected
-
--- Whether the first byte encodes a negative number.
-abbrev pub begins_negative : List ℕ → Bool
-begins_negative [] = false
-begins_negative (byte ∷ bytes) = if nat_le 0x40 byte then nat_lt byte 0x80 else false
-
--- An unsigned integer of a number of bits.
-unfoldable pub unsigned_at : ℕ → Reading ℕ
-unsigned_at bits [] = None
-unsigned_at bits (byte ∷ bytes) =
-    if nat_lt byte 128
-    then (if nat_lt byte (2 ^ bits) then Some (byte, bytes) else None)
-    else (if nat_lt 7 bits
-    then (unsigned_at (bits - 7) bytes >>= λ rest. Some (128 * rest.0 + (byte - 128), rest.1))
-    else None)
-
--- A signed integer of a number of bits, from its last byte.
-abbrev pub last_byte_at : ℕ → ℕ → Reading ℤ
-last_byte_at bits byte bytes =
-    if nat_lt byte 64
-    then (if nat_lt byte (2 ^ (bits - 1)) then Some (pos byte, bytes) else None)
-    else (if nat_le 128 (byte + 2 ^ (bits - 1)) then Some (negsuc (127 - byte), bytes) else None)
-
--- A signed integer of a number of bits.
-unfoldable pub signed_at : ℕ → Reading ℤ
-signed_at bits [] = None
-signed_at bits (byte ∷ bytes) =
-    if nat_lt byte 128
-    then last_byte_at bits byte bytes
-    else (if nat_lt 7 bits
-    then (signed_at (bits - 7) bytes >>= λ rest. Some
-    ((pos 128 *ℤ rest.0) +ℤ pos (byte - 128), rest.1))
-    else None)
+-- The next byte, if there is one.
+abbrev pub first_byte : List ℕ → Option ℕ
+first_byte [] = None
+first_byte (byte ∷ bytes) = Some byte
 
 -- A size, and that many bytes.
 unfoldable pub part_at : Reading (List ℕ)
 part_at bytes = do
   size ← unsigned_at 32 bytes
   if nat_lt (length size.1) size.0 then None else Some (take size.0 size.1, drop size.0 size.1)
-
--- A number of values in turn, after those that were read before.
-unfoldable pub each_at : {V : Type 0} → Reading V → ℕ → List V → Reading (List V)
-each_at read zero values bytes = Some (values, bytes)
-each_at read (suc count) values bytes = do
-  value ← read bytes
-  each_at read count (values ++ value.0 ∷ []) value.1
-
--- A count, and that many values.
-unfoldable pub vector_at : {V : Type 0} → Reading V → Reading (List V)
-vector_at read bytes = do
-  count ← unsigned_at 32 bytes
-  each_at read count.0 [] count.1
 
 -- A size, and content of exactly that size.
 unfoldable pub sized_at : {V : Type 0} → Reading V → Reading V
@@ -76,13 +27,3 @@ unfoldable pub name_at : Reading (List ℕ)
 name_at bytes = do
   part ← part_at bytes
   if is_utf8 part.0 then Some (part.0, part.1) else None
-
--- Exactly these bytes.
-unfoldable pub expected_at : List ℕ → Reading (Unit {0})
-expected_at [] bytes = Some (tt, bytes)
-expected_at (byte ∷ expected) bytes =
-    if begins_with byte bytes then expected_at expected (drop 1 bytes) else None
-
--- An index.
-abbrev pub index_at : Reading ℕ
-index_at bytes = unsigned_at 32 bytes

@@ -1,22 +1,22 @@
-//! Expressions: instructions up to the end of the outermost body (Binary Format, Expressions).
+//! Expressions: operations up to the end of the outermost body (Binary Format, Expressions).
 
-ghost use Rattle.std.specs.Prelude.{◌≡◌, ◌≤◌, IfOk, List, OnOk, [], false, length, ℕ};
-ghost use Rattle.core_types.specs.declared.op.Op.TheVariants.{Block, Else, End, If, Loop};
-ghost use Rattle.binary.specs.Conventions.{Gives, bare_at, mapped_at};
-ghost use Rattle.binary.specs.Instructions.{NameNoData, NotesData, NotesMore, operation_at};
-ghost use Rattle.binary.specs.Types.{block_type_at};
-ghost use Rattle.binary.specs.Expressions.{ReadsFrequent, ReadsNext, ReadsRow, expression_at};
-ghost use Rattle.binary.specs.declared.errors.DecodeError.TheVariants.{OutOfMemory};
-ghost use Rattle.binary.specs.declared.expressions.Flow.TheVariants.{Continues};
+ghost use Rattle.std.specs.Prelude.{◌≡◌, IfOk, Some, ◌||◌};
+ghost use Rattle.core_types.specs.declared.op.Op.TheVariants.{Else, End};
+ghost use Rattle.std.specs.List.{list_any};
+ghost use Rattle.core_types.specs.Expressions.{mark_op};
+ghost use Rattle.meaning.specs.binary.Modules.{names_data};
+ghost use Rattle.binary.specs.Conventions.{Gives};
+ghost use Rattle.binary.specs.Expressions.{SkipsExpression, SkipsOperation, expression_at, next_bodies};
+ghost use Rattle.binary.specs.Values.{first_byte};
 
 use crate::errors::DecodeError;
 use crate::instructions::{
-    push_control, push_i32_const, push_memory, push_numeric, push_plain, push_variable,
+    is_of_data, read_control_op, read_i32_const_op, read_mark, read_memory_op, read_numeric_op,
+    read_op, read_variable_op,
 };
 use crate::reader::Reader;
-use crate::types::read_block_type;
 use crate::values::Readable;
-use core_types::{Expression, Op, Stack};
+use core_types::{Expression, FuncBody, Mark, MemoryOp, Op, Stack};
 use std::alloc::{AllocError, Global};
 
 // A body that the decoder has begun and not ended.
@@ -39,258 +39,194 @@ pub enum Flow {
     Misplaced,
 }
 
-// Pushes the beginning of a block, whose opcode was read.
-fn push_block(
-    reader: &mut Reader<'_>,
-    bodies: &mut Stack<OpenBody>,
-    ops: &mut Expression,
-) -> Result<Flow, DecodeError>
-    ensures reads { ReadsNext result bodies.old bodies.new ops.old ops.new
-        reader.new (mapped_at Block block_type_at reader.old) }
-    ensures data { OnOk result (NameNoData ops.old → NameNoData ops.new) }
-{
-    let ty = read_block_type(reader)?;
-    bodies.push(OpenBody::InBlock)?;
-    ops.push(Op::Block(ty))?;
-    Ok(Flow::Continues)
-}
-
-// Pushes the beginning of a loop, whose opcode was read.
-fn push_loop(
-    reader: &mut Reader<'_>,
-    bodies: &mut Stack<OpenBody>,
-    ops: &mut Expression,
-) -> Result<Flow, DecodeError>
-    ensures reads { ReadsNext result bodies.old bodies.new ops.old ops.new
-        reader.new (mapped_at Loop block_type_at reader.old) }
-    ensures data { OnOk result (NameNoData ops.old → NameNoData ops.new) }
-{
-    let ty = read_block_type(reader)?;
-    bodies.push(OpenBody::InBlock)?;
-    ops.push(Op::Loop(ty))?;
-    Ok(Flow::Continues)
-}
-
-// Pushes the beginning of an if, whose opcode was read.
-fn push_if(
-    reader: &mut Reader<'_>,
-    bodies: &mut Stack<OpenBody>,
-    ops: &mut Expression,
-) -> Result<Flow, DecodeError>
-    ensures reads { ReadsNext result bodies.old bodies.new ops.old ops.new
-        reader.new (mapped_at If block_type_at reader.old) }
-    ensures data { OnOk result (NameNoData ops.old → NameNoData ops.new) }
-{
-    let ty = read_block_type(reader)?;
-    bodies.push(OpenBody::InIf)?;
-    ops.push(Op::If(ty))?;
-    Ok(Flow::Continues)
-}
-
-// Pushes an else: the first body of an if ends, and the second begins.
-fn push_else(bodies: &mut Stack<OpenBody>, ops: &mut Expression) -> Result<Flow, DecodeError>
-    ensures reads { (rest : List ℕ) → ReadsNext result bodies.old bodies.new ops.old
-        ops.new rest (bare_at Else rest) }
-    ensures data { OnOk result (NameNoData ops.old → NameNoData ops.new) }
+// Ends the first body of an if, and begins the second.
+fn follow_else(bodies: &mut Stack<OpenBody>) -> Result<Flow, AllocError>
+    ensures { IfOk result (λ flow. next_bodies bodies.old Else ≡ (flow, bodies.new)) }
 {
     match bodies.pop() {
         Some(OpenBody::InIf) => {
             bodies.push(OpenBody::InBlock)?;
-            ops.push(Op::Else)?;
             Ok(Flow::Continues)
         }
-        Some(OpenBody::InBlock) => {
-            bodies.push(OpenBody::InBlock)?;
-            Ok(Flow::Misplaced)
-        }
-        None => Ok(Flow::Misplaced),
+        _ => Ok(Flow::Misplaced),
     }
 }
 
-// Pushes an end: a body ends, or the expression ends if no body is open.
+// Ends a body, or the expression if no body is open.
 #[inline(always)]
-fn push_end(bodies: &mut Stack<OpenBody>, ops: &mut Expression) -> Result<Flow, DecodeError>
-    ensures reads { (rest : List ℕ) → ReadsNext result bodies.old bodies.new ops.old
-        ops.new rest (bare_at End rest) }
-    ensures data { OnOk result (NameNoData ops.old → NameNoData ops.new) }
+fn follow_end(bodies: &mut Stack<OpenBody>) -> Flow
+    ensures { next_bodies bodies.old End ≡ (result, bodies.new) }
 {
     match bodies.pop() {
-        Some(_) => {
-            ops.push(Op::End)?;
-            Ok(Flow::Continues)
-        }
-        None => Ok(Flow::Ended),
+        Some(_) => Flow::Continues,
+        None => Flow::Ended,
     }
 }
 
-// Reads the rest of an operation, whose opcode was read at the offset. Notes if it names a data segment.
-#[tactic(auto, unfolding(crate::specs::Instructions::operation_at))]
+// Begins and ends bodies as a mark does.
+#[inline(always)]
+fn follow_mark(bodies: &mut Stack<OpenBody>, mark: Mark) -> Result<Flow, AllocError>
+    ensures { IfOk result (λ flow. next_bodies bodies.old (mark_op mark) ≡ (flow, bodies.new)) }
+{
+    match mark {
+        Mark::Block(_) | Mark::Loop(_) => bodies.push(OpenBody::InBlock)?,
+        Mark::If(_) => bodies.push(OpenBody::InIf)?,
+        Mark::Else => return follow_else(bodies),
+        Mark::End => return Ok(follow_end(bodies)),
+    }
+    Ok(Flow::Continues)
+}
+
+// Begins and ends bodies as an operation does.
+fn follow(bodies: &mut Stack<OpenBody>, op: &Op) -> Result<Flow, AllocError>
+    ensures { IfOk result (λ flow. next_bodies bodies.old op.now ≡ (flow, bodies.new)) }
+{
+    match op {
+        Op::Plain(_) => Ok(Flow::Continues),
+        Op::Block(ty) => follow_mark(bodies, Mark::Block(*ty)),
+        Op::Loop(ty) => follow_mark(bodies, Mark::Loop(*ty)),
+        Op::If(ty) => follow_mark(bodies, Mark::If(*ty)),
+        Op::Else => follow_mark(bodies, Mark::Else),
+        Op::End => follow_mark(bodies, Mark::End),
+    }
+}
+
+// Skips any operation. Notes if it names a data segment.
 #[inline(never)]
-fn read_other(
+fn skip_any(
     alloc: Global,
     reader: &mut Reader<'_>,
     bodies: &mut Stack<OpenBody>,
-    ops: &mut Expression,
-    code: u8,
-    offset: usize,
     data_named: &mut bool,
 ) -> Result<Flow, DecodeError>
-    ensures reads { ReadsNext result bodies.old bodies.new ops.old ops.new
-        reader.new (operation_at code reader.old) }
-    ensures data { OnOk result (NotesMore ops.old data_named.old ops.new data_named.new) }
+    ensures { SkipsOperation result reader.old reader.new bodies.old bodies.new data_named.old
+        data_named.new }
+{
+    let op = read_op(alloc, reader)?;
+    *data_named |= is_of_data(&op);
+    Ok(follow(bodies, &op)?)
+}
+
+// Like `skip_any`. Only a copy of the reader is in memory.
+#[inline(always)]
+fn skip_infrequent(
+    alloc: Global,
+    reader: &mut Reader<'_>,
+    bodies: &mut Stack<OpenBody>,
+    data_named: &mut bool,
+) -> Result<Flow, DecodeError>
+    ensures { SkipsOperation result reader.old reader.new bodies.old bodies.new data_named.old
+        data_named.new }
+{
+    let mut copy = reader.fork();
+    let result = skip_any(alloc, &mut copy, bodies, data_named);
+    *reader = copy;
+    result
+}
+
+// Skips an operation with this opcode, and begins and ends bodies as it does. Notes if it names a data segment.
+#[inline(always)]
+fn skip_operation(
+    alloc: Global,
+    reader: &mut Reader<'_>,
+    bodies: &mut Stack<OpenBody>,
+    data_named: &mut bool,
+    code: u8,
+) -> Result<Flow, DecodeError>
+    requires { first_byte reader.old ≡ Some code }
+    ensures { SkipsOperation result reader.old reader.new bodies.old bodies.new data_named.old
+        data_named.new }
 {
     match code {
-        0x02 => push_block(reader, bodies, ops),
-        0x03 => push_loop(reader, bodies, ops),
-        0x04 => push_if(reader, bodies, ops),
-        0x05 => push_else(bodies, ops),
-        0x0B => push_end(bodies, ops),
-        _ => {
-            push_plain(alloc, reader, ops, code, offset, data_named)?;
+        0x20..=0x24 => {
+            read_variable_op(reader, code)?;
             Ok(Flow::Continues)
         }
+        0x41 => {
+            read_i32_const_op(reader)?;
+            Ok(Flow::Continues)
+        }
+        0x45..=0xC4 => {
+            read_numeric_op(reader, code)?;
+            Ok(Flow::Continues)
+        }
+        0x28..=0x3E => {
+            let op = read_memory_op(reader, code)?;
+            *data_named |= matches!(op, MemoryOp::Init(_) | MemoryOp::DataDrop(_));
+            Ok(Flow::Continues)
+        }
+        0x0C | 0x0D | 0x0F | 0x10 => {
+            read_control_op(reader, code)?;
+            Ok(Flow::Continues)
+        }
+        0x02..=0x05 | 0x0B => {
+            let mark = read_mark(reader, code)?;
+            Ok(follow_mark(bodies, mark)?)
+        }
+        _ => skip_infrequent(alloc, reader, bodies, data_named),
     }
 }
 
-// Reads the rest of an operation, as `read_other` does. The end of a body is so frequent that it has its own case.
-#[tactic(auto, unfolding(crate::specs::Instructions::operation_at))]
-#[inline(always)]
-fn read_next(
+// Skips the operations up to the end of the outermost body. Reuses the room of a stack. Notes if one of them names a data segment.
+#[inline(never)]
+fn skip_expression(
     alloc: Global,
     reader: &mut Reader<'_>,
     bodies: &mut Stack<OpenBody>,
-    ops: &mut Expression,
-    code: u8,
-    offset: usize,
     data_named: &mut bool,
-) -> Result<Flow, DecodeError>
-    ensures reads { ReadsNext result bodies.old bodies.new ops.old ops.new
-        reader.new (operation_at code reader.old) }
-    ensures data { OnOk result (NotesMore ops.old data_named.old ops.new data_named.new) }
+) -> Result<(), DecodeError>
+    ensures { SkipsExpression result reader.old reader.new data_named.old data_named.new }
 {
-    if code == 0x0B {
-        push_end(bodies, ops)
-    } else {
-        read_other(alloc, reader, bodies, ops, code, offset, data_named)
-    }
-}
-
-// Reads the rest of an operation, whose opcode was read at the offset, if it is a frequent one. Returns whether it is. Frequent
-// operations are never marks.
-#[tactic(auto, unfolding(crate::specs::Instructions::operation_at, crate::specs::Instructions::plain_at, crate::specs::Instructions::group_at))]
-#[inline(always)]
-fn read_frequent(
-    reader: &mut Reader<'_>,
-    ops: &mut Expression,
-    code: u8,
-    offset: usize,
-) -> Result<bool, DecodeError>
-    ensures reads { ReadsFrequent result ops.old ops.new reader.old reader.new
-        (operation_at code reader.old) }
-    ensures data { OnOk result (NameNoData ops.old → NameNoData ops.new) }
-{
-    if matches!(code, 0x20..=0x24) {
-        push_variable(reader, ops, code, offset)?;
-    } else if code == 0x41 {
-        push_i32_const(reader, ops)?;
-    } else if matches!(code, 0x45..=0xC4) {
-        push_numeric(ops, code, offset)?;
-    } else if matches!(code, 0x28..=0x40) {
-        push_memory(reader, ops, code, offset)?;
-    } else if matches!(code, 0x0C | 0x0D | 0x0F | 0x10) {
-        push_control(reader, ops, code, offset)?;
-    } else {
-        return Ok(false);
-    }
-    Ok(true)
-}
-
-// Reads consecutive frequent operations, up to another one or to the end of the bytes. Meanwhile the reader is a local variable.
-#[inline(always)]
-fn read_row(reader: &mut Reader<'_>, ops: &mut Expression) -> Result<(), DecodeError>
-    ensures reads { ReadsRow result ops.old ops.new reader.old reader.new }
-    ensures forward { OnOk result (length reader.new ≤ length reader.old) }
-    ensures data { OnOk result (NameNoData ops.old → NameNoData ops.new) }
-{
+    bodies.clear();
     let mut here = reader.fork();
-    while !here.is_empty() {
-        let mut next = here.fork();
-        let offset = next.offset();
-        let code = next.byte()?;
-        if !read_frequent(&mut next, ops, code, offset)? {
-            break;
+    loop {
+        let offset = here.offset();
+        let Some(code) = here.peek() else {
+            return Err(DecodeError::Malformed(offset));
+        };
+        match skip_operation(alloc, &mut here, bodies, data_named, code)? {
+            Flow::Continues => {}
+            Flow::Ended => break,
+            Flow::Misplaced => return Err(DecodeError::Malformed(offset)),
         }
-        here = next;
     }
     *reader = here;
     Ok(())
 }
 
-// Reads operations up to the end of the outermost body into an empty expression. Reuses the room of a stack. Notes if an
-// operation names a data segment.
-fn read_operations(
-    alloc: Global,
-    reader: &mut Reader<'_>,
-    bodies: &mut Stack<OpenBody>,
-    ops: Expression,
-    data_named: &mut bool,
-) -> Result<Expression, DecodeError>
-    requires { ops ≡ [] }
-    ensures reads { Gives result reader.new (expression_at reader.old) }
-    ensures data { IfOk result (NotesData data_named.new) }
-    ensures before { OnOk result (data_named.new ≡ false → data_named.old ≡ false) }
-{
-    bodies.clear();
-    let mut ops = ops;
-    loop {
-        read_row(reader, &mut ops)?;
-        let offset = reader.offset();
-        let code = reader.byte()?;
-        match read_next(alloc, reader, bodies, &mut ops, code, offset, data_named)? {
-            Flow::Continues => {}
-            Flow::Ended => {
-                ops.shrink();
-                return Ok(ops);
-            }
-            Flow::Misplaced => return Err(DecodeError::Malformed(offset)),
-        }
-    }
-}
-
-pub fn read_expression(alloc: Global, reader: &mut Reader<'_>) -> Result<Expression, DecodeError>
-    ensures { Gives result reader.new (expression_at reader.old) }
-{
-    let mut bodies = Stack::new(alloc);
-    let mut data_named = false;
-    read_operations(
-        alloc,
-        reader,
-        &mut bodies,
-        Expression::new(alloc),
-        &mut data_named,
-    )
-}
-
-// Reads an expression that takes most of the bytes left. Most operations take two bytes or more. Reuses the room of a stack.
-// Notes if an operation may name a data segment.
+// Reads the body of a function. Reuses the room of a stack. Notes if an operation names a data segment.
 pub fn read_body(
     alloc: Global,
     reader: &mut Reader<'_>,
     bodies: &mut Stack<OpenBody>,
     data_named: &mut bool,
-) -> Result<Expression, DecodeError>
+) -> Result<FuncBody, DecodeError>
     ensures reads { Gives result reader.new (expression_at reader.old) }
-    ensures data { IfOk result (NotesData data_named.new) }
-    ensures before { OnOk result (data_named.new ≡ false → data_named.old ≡ false) }
+    ensures data { IfOk result (λ ops. data_named.new ≡ (data_named.old || list_any names_data ops)) }
 {
-    let room = reader.rest().len() / 2;
-    read_operations(
-        alloc,
-        reader,
-        bodies,
-        Expression::with_room(alloc, room),
-        data_named,
-    )
+    let whole = reader.rest();
+    skip_expression(alloc, reader, bodies, data_named)?;
+    let end = whole.len() - reader.rest().len() - 1;
+    Ok(FuncBody::from_bytes(Vec::from_slice(alloc, &whole[..end])?))
+}
+
+// Reads a constant expression.
+pub fn read_expression(alloc: Global, reader: &mut Reader<'_>) -> Result<Expression, DecodeError>
+    ensures { Gives result reader.new (expression_at reader.old) }
+{
+    let mut bodies = Stack::new(alloc);
+    let mut ops = Expression::new(alloc);
+    loop {
+        let offset = reader.offset();
+        let op = read_op(alloc, reader)?;
+        match follow(&mut bodies, &op)? {
+            Flow::Continues => ops.push(op)?,
+            Flow::Ended => break,
+            Flow::Misplaced => return Err(DecodeError::Malformed(offset)),
+        }
+    }
+    ops.shrink();
+    Ok(ops)
 }
 
 impl Readable for Expression {

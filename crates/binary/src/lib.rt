@@ -1,6 +1,7 @@
 //! The decoder: reads modules in the binary format.
 #![tactic(auto)]
 
+mod bodies;
 mod errors;
 mod expressions;
 mod instructions;
@@ -12,6 +13,7 @@ mod sections;
 mod types;
 mod values;
 
+pub use bodies::BodyReader;
 pub use errors::DecodeError;
 pub use laws::bytes_spell_one_module;
 pub use modules::decode;

@@ -1,7 +1,7 @@
 //! Modules (Binary Format, Modules).
 
-ghost use Rattle.std.specs.Prelude.{◌≡◌, IfOk};
-ghost use Rattle.binary.specs.Sections.{NotesDataOfAll};
+ghost use Rattle.std.specs.Prelude.{◌≡◌, IfOk, ◌||◌};
+ghost use Rattle.binary.specs.Sections.{name_data};
 ghost use Rattle.binary.specs.Modules.{contents_at, definitions_at, module_at, module_from};
 ghost use Rattle.binary.specs.Conventions.{Gives};
 ghost use Rattle.binary.specs.Errors.{IfRefused, IsNoModule};
@@ -77,7 +77,7 @@ struct Definitions {
     contents: Contents,
 }
 
-// Reads a module, and its data count. Notes if its code may name a data segment.
+// Reads a module, and its data count. Notes if its code names a data segment.
 #[tactic(auto, unfolding(crate::specs::Modules::module_at, crate::specs::Modules::sections_at))]
 fn read_module(
     alloc: Global,
@@ -85,7 +85,8 @@ fn read_module(
     data_named: &mut bool,
 ) -> Result<(Module, Option<u32>), DecodeError>
     ensures reads { Gives result reader.new (module_at reader.old) }
-    ensures data { IfOk result (λ read. NotesDataOfAll data_named.new read.0.funcs) }
+    ensures data { IfOk result
+        (λ read. data_named.new ≡ (data_named.old || name_data read.0.funcs)) }
 {
     read_expected(reader, &HEADER)?;
     let types = read_vector_section::<FuncType>(alloc, reader, 1)?;
@@ -103,7 +104,8 @@ fn read_definitions(
     indices: &[u32],
     data_named: &mut bool,
 ) -> Result<Definitions, DecodeError>
-    ensures data { IfOk result (λ read. NotesDataOfAll data_named.new read.contents.funcs) }
+    ensures data { IfOk result
+        (λ read. data_named.new ≡ (data_named.old || name_data read.contents.funcs)) }
     ensures reads { Gives result reader.new (definitions_at indices.now reader.old) }
 {
     let tables = read_vector_section::<TableType>(alloc, reader, 4)?;
@@ -128,7 +130,8 @@ fn read_contents(
     indices: &[u32],
     data_named: &mut bool,
 ) -> Result<Contents, DecodeError>
-    ensures data { IfOk result (λ read. NotesDataOfAll data_named.new read.funcs) }
+    ensures data { IfOk result
+        (λ read. data_named.new ≡ (data_named.old || name_data read.funcs)) }
     ensures reads { Gives result reader.new (contents_at indices.now reader.old) }
 {
     let start = read_number_section(reader, 8)?;

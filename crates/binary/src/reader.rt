@@ -1,7 +1,8 @@
-ghost use Rattle.std.specs.Prelude.{◌≡◌, ◌≢◌, ◌==◌, [], length, drop, if◌then◌else◌, ◌^◌, ◌<ℤ◌, pos, OnOk, IfOk, IfErr};
+ghost use Rattle.std.specs.Prelude.{◌≡◌, ◌≢◌, ◌<◌, ◌==◌, ℕ, Some, [], length, drop, if◌then◌else◌, ◌^◌, ◌<ℤ◌, pos, OnOk, IfOk, IfErr};
 ghost use Rattle.binary.specs.Conventions.{Gives};
 ghost use Rattle.binary.specs.Errors.{OnRefused};
-ghost use Rattle.binary.specs.Values.{begins_negative, begins_with, byte_at, part_at, signed_at, unsigned_at};
+ghost use Rattle.core_types.specs.reading.Values.{begins_negative, begins_with, byte_at, signed_at, unsigned_at};
+ghost use Rattle.binary.specs.Values.{first_byte, part_at};
 
 use crate::errors::DecodeError;
 use leb::{read_s32, read_s33, read_s64, read_u32};
@@ -61,6 +62,27 @@ impl<'a> Reader<'a> {
         ensures { result.now ≡ self.now }
     {
         &self.bytes[self.offset..]
+    }
+
+    // Returns the next byte, if one is left.
+    #[inline(always)]
+    pub fn peek(&self) -> Option<u8>
+        ensures { result ≡ first_byte self.now }
+    {
+        if self.offset >= self.bytes.len() {
+            return None;
+        }
+        Some(self.bytes[self.offset])
+    }
+
+    // Skips the next byte.
+    #[inline(always)]
+    pub fn skip(&mut self)
+        requires { 0 < length self.old }
+        ensures { (byte : ℕ) → first_byte self.old ≡ Some byte
+            → byte_at self.old ≡ Some (byte, self.new) }
+    {
+        self.offset += 1;
     }
 
     // Skips the next byte if it is this one. Returns whether it is.

@@ -12,7 +12,7 @@ pub mod imports;
 
 ghost use Rattle.binary.specs.Conventions.{Gives};
 ghost use Rattle.binary.specs.Sections.{target_at, value_section_at, vector_section_at};
-ghost use Rattle.binary.specs.Values.{unsigned_at};
+ghost use Rattle.core_types.specs.reading.Values.{unsigned_at};
 
 use crate::errors::DecodeError;
 use crate::expressions::read_expression;

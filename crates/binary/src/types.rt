@@ -1,7 +1,8 @@
 //! Types (Binary Format, Types).
 
 ghost use Rattle.binary.specs.Conventions.{Gives};
-ghost use Rattle.binary.specs.Types.{block_type_at, global_type_at, limits_at, mutability_at, other_block_type_at, ref_type_at, table_type_at, val_type_at};
+ghost use Rattle.core_types.specs.reading.Types.{block_type_at, other_block_type_at, ref_type_at, val_type_at};
+ghost use Rattle.binary.specs.Types.{global_type_at, limits_at, mutability_at, table_type_at};
 
 use crate::errors::DecodeError;
 use crate::reader::Reader;
@@ -12,7 +13,7 @@ use core_types::{
 use std::alloc::Global;
 
 impl Readable for ValType {
-    ghost use Rattle.binary.specs.Types.{val_type_at};
+    ghost use Rattle.core_types.specs.reading.Types.{val_type_at};
 
     ghost reads = { val_type_at };
 
@@ -60,7 +61,7 @@ impl Readable for TableType {
 }
 
 // Reads a value type: a number type or a reference type.
-#[tactic(auto, unfolding(crate::specs::Types::val_type_at))]
+#[tactic(auto, unfolding(core_types::specs::reading::Types::val_type_at))]
 pub fn read_val_type(reader: &mut Reader<'_>) -> Result<ValType, DecodeError>
     ensures { Gives result reader.new (val_type_at reader.old) }
 {
@@ -76,7 +77,7 @@ pub fn read_val_type(reader: &mut Reader<'_>) -> Result<ValType, DecodeError>
 }
 
 // Reads a reference type.
-#[tactic(auto, unfolding(crate::specs::Types::ref_type_at))]
+#[tactic(auto, unfolding(core_types::specs::reading::Types::ref_type_at))]
 pub fn read_ref_type(reader: &mut Reader<'_>) -> Result<RefType, DecodeError>
     ensures { Gives result reader.new (ref_type_at reader.old) }
 {
@@ -153,8 +154,8 @@ fn read_other_block_type(reader: &mut Reader<'_>) -> Result<BlockType, DecodeErr
     }
 }
 
-// Reads a block type. Most are empty.
-#[tactic(auto, unfolding(crate::specs::Types::block_type_at))]
+// Reads a block type. Most are empty. Only a copy of the reader is in memory.
+#[tactic(auto, unfolding(core_types::specs::reading::Types::block_type_at))]
 #[inline(always)]
 pub fn read_block_type(reader: &mut Reader<'_>) -> Result<BlockType, DecodeError>
     ensures { Gives result reader.new (block_type_at reader.old) }
@@ -162,5 +163,8 @@ pub fn read_block_type(reader: &mut Reader<'_>) -> Result<BlockType, DecodeError
     if reader.accept(0x40) {
         return Ok(BlockType::Empty);
     }
-    read_other_block_type(reader)
+    let mut copy = reader.fork();
+    let result = read_other_block_type(&mut copy);
+    *reader = copy;
+    result
 }

@@ -3,7 +3,8 @@
 ghost use Rattle.std.specs.Prelude.{◌≡◌, [], true, false, List, ℕ, Option, IfSome, IfNone};
 ghost use Rattle.std.specs.Str.{is_utf8};
 ghost use Rattle.binary.specs.Conventions.{Gives, GivesSeen};
-ghost use Rattle.binary.specs.Values.{each_at, expected_at, name_at, part_at, vector_at};
+ghost use Rattle.core_types.specs.reading.Values.{each_at, expected_at, vector_at};
+ghost use Rattle.binary.specs.Values.{name_at, part_at};
 
 use crate::errors::DecodeError;
 use crate::reader::Reader;
@@ -19,7 +20,7 @@ pub trait Readable: Drop {
 }
 
 impl Readable for u32 {
-    ghost use Rattle.binary.specs.Values.{unsigned_at};
+    ghost use Rattle.core_types.specs.reading.Values.{unsigned_at};
 
     ghost reads = { unsigned_at 32 };
 
@@ -43,7 +44,7 @@ fn read_each<T: Readable>(
 }
 
 // Reads a vector: a count, and that many values.
-#[tactic(auto, unfolding(crate::specs::Values::vector_at))]
+#[tactic(auto, unfolding(core_types::specs::reading::Values::vector_at))]
 pub fn read_vector<T: Readable>(
     alloc: Global,
     reader: &mut Reader<'_>,

@@ -1,5 +1,5 @@
 -- Flat operations in eight bytes, and those that take more.
-use Rattle.std.specs.Prelude.{List, ℕ, ◌<◌, ⊤, get_or, Option, None, Some}
+use Rattle.std.specs.Prelude.{ℕ, ⊤, Option, None, Some}
 use denote.Ref.{Bor}
 use Rattle.core_types.specs.declared.lent_op.Mark.{Mark}
 use Rattle.core_types.specs.declared.lent_op.Mark.TheVariants as mark
@@ -84,14 +84,9 @@ mark_op (mark.If t) = op.If t
 mark_op mark.Else = op.Else
 mark_op mark.End = op.End
 
--- The stored operation, with this list of those that take more than eight bytes.
-abbrev pub stored_op : List Op → OpWith ℕ → Op
-stored_op others o = op_with (λ n. get_or others n op.End) o
-
--- Its number, if it has one, is below the number of operations in the list.
-abbrev pub IsWithin : ℕ → OpWith ℕ → Type 0
-IsWithin count (short.Other n) = n < count
-IsWithin count o = ⊤
+-- The short operation, or the other one.
+abbrev pub short_op : Op → OpWith (Unit {0}) → Op
+short_op other o = op_with (λ nothing. other) o
 
 -- It begins or ends a body, or has a list.
 abbrev pub HasListOrBody : Op → Type 0

@@ -1,3 +1,5 @@
+pub mod Opcodes
+pub mod reading
 pub mod Expressions
 pub mod LocalRuns
 pub mod Outcome

@@ -4,6 +4,7 @@
 mod appending;
 mod boxed;
 mod expression;
+mod func_body;
 mod halving;
 mod items;
 mod lent_op;
@@ -12,14 +13,15 @@ mod module;
 mod op;
 mod outcome;
 mod plain;
+mod short_op;
 mod stack;
-mod stored_op;
 mod text;
 mod types;
 
 pub use appending::append;
 pub use boxed::Boxed;
 pub use expression::Expression;
+pub use func_body::FuncBody;
 pub use items::{Items, item};
 pub use lent_op::{LentOp, Mark, OpWith, is_mark, mark_of};
 pub use locals::{LocalRun, Locals};
@@ -34,6 +36,7 @@ pub use op::{
 };
 pub use outcome::{Exhaustion, Extern, Trap, Val};
 pub use plain::plain_op;
+pub use short_op::{ShortOp, lend, lent, shorten};
 pub use stack::Stack;
 pub use text::Name;
 pub use types::{

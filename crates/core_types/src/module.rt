@@ -1,16 +1,17 @@
 use crate::expression::Expression;
+use crate::func_body::FuncBody;
 use crate::items::Items;
 use crate::locals::Locals;
 use crate::text::Name;
 use crate::types::{FuncType, GlobalType, Limits, RefType, TableType};
 
-/// A function of a module: the index of its type, its locals without the parameters, and its flat body without the last
-/// `End` (Structure, Modules, Functions).
+/// A function of a module: the index of its type, its locals without the parameters, and its body (Structure, Modules,
+/// Functions).
 #[derive(Drop)]
 pub struct Func {
     pub ty: u32,
     pub locals: Locals,
-    pub body: Expression,
+    pub body: FuncBody,
 }
 
 /// What an import requires. A function is given by the index of its type (Structure, Modules, Imports).

@@ -8,7 +8,6 @@ use binary::decode;
 use std::alloc::Global;
 use std::rc::Rc;
 use store::LoadedModule;
-use validator::validate;
 
 /// Returns the module that the bytes encode, if it is valid.
 pub fn load_module(alloc: Global, bytes: &[u8]) -> Result<Rc<LoadedModule>, Refusal>
@@ -17,7 +16,6 @@ pub fn load_module(alloc: Global, bytes: &[u8]) -> Result<Rc<LoadedModule>, Refu
     ensures refused { IfErr result (λ refusal. RefusesBytes bytes.now refusal) }
 {
     let decoded = decode(alloc, bytes)?;
-    let validated = validate(alloc, decoded)?;
-    let loaded = LoadedModule::new(alloc, validated)?;
+    let loaded = LoadedModule::new(alloc, decoded)?;
     Ok(Rc::new(alloc, loaded)?)
 }

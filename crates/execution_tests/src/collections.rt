@@ -2,7 +2,7 @@
 
 use core_types::{
     BlockType, Boxed, BranchTable, Expression, Items, LentOp, Locals, MemArg, MemoryOp, Name, Op,
-    OpWith, PlainOp, Stack, StoreOp, ValType, append, is_mark, item,
+    OpWith, PlainOp, ShortOp, Stack, StoreOp, ValType, append, is_mark, item,
 };
 use std::alloc::{AllocError, Global};
 use std::mem::size_of;
@@ -221,8 +221,8 @@ fn push_operations(alloc: Global, expression: &mut Expression) -> Result<(), All
 }
 
 // Returns an expression of these operations.
-fn expression_of(alloc: Global, room: usize) -> Result<Expression, AllocError> {
-    let mut expression = Expression::with_room(alloc, room);
+fn expression_of(alloc: Global) -> Result<Expression, AllocError> {
+    let mut expression = Expression::new(alloc);
     push_operations(alloc, &mut expression)?;
     expression.shrink();
     Ok(expression)
@@ -258,25 +258,22 @@ fn is_operation(index: usize, op: LentOp<'_>) -> bool {
     }
 }
 
-// Returns whether an expression with this room has its eight operations.
-fn keeps_operations(alloc: Global, room: usize) -> Result<bool, AllocError> {
-    let expression = expression_of(alloc, room)?;
+// Returns whether an expression has its eight operations.
+fn keeps_operations(alloc: Global) -> Result<bool, AllocError> {
+    let expression = expression_of(alloc)?;
     let mut all = expression.len() == 8;
     for index in 0..expression.len() {
         all &= is_operation(index, expression.get(index));
-        all &= expression.is_mark_at(index) == matches!(index, 4..=6);
     }
     Ok(all)
 }
 
 #[test]
 fn keeps_expressions(rt: HostRuntime) {
-    for room in [0, 1, 9, usize::MAX] {
-        assert!(rt; keeps_operations(rt.alloc(), room) == Ok(true), "{room}");
-    }
+    assert!(rt; keeps_operations(rt.alloc()) == Ok(true));
 }
 
 #[test]
 fn operations_are_small(rt: HostRuntime) {
-    assert!(rt; size_of::<OpWith<u32>>() == 8);
+    assert!(rt; size_of::<ShortOp>() == 8);
 }

@@ -2,7 +2,7 @@
 //! above the locals, or the numbers of parameters, locals and results.
 
 use crate::listing::list;
-use crate::modules::valid_module;
+use crate::modules::decoded_module;
 use sidetable::{FlatModule, PackedFunction, PackedOp, flatten};
 use std::alloc::{AllocError, Global};
 use std::mem::size_of;
@@ -116,8 +116,9 @@ fn is_so(
 
 // Returns the flat code of a source's module.
 fn flat_module_of(alloc: Global, source: &str) -> Option<FlatModule> {
-    let validated = valid_module(alloc, source)?;
-    flatten(alloc, &validated).ok()
+    let decoded = decoded_module(alloc, source)?;
+    let (_, flat) = flatten(alloc, decoded).ok()?;
+    Some(flat)
 }
 
 // Returns whether the last function of a module is as expected.

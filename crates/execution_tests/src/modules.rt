@@ -1,7 +1,7 @@
 //! Modules from text, and stores of them.
 
 use binary::decode;
-use core_types::Extern;
+use core_types::{Extern, Module};
 use exec::have_hosts;
 use fuel::Meter;
 use hostfunc::HostTable;
@@ -10,7 +10,6 @@ use std::alloc::Global;
 use std::rc::Rc;
 use store::{LoadedModule, Store};
 use testing::assemble;
-use validator::{ValidModule, validate};
 
 /// The most pages that a memory may have.
 pub const PAGES: u32 = 1024;
@@ -24,23 +23,20 @@ const FUEL: u64 = 1_000;
 /// The most frames that may be open.
 pub const DEPTH: u32 = 100;
 
-/// Returns the valid module of a text. Returns none if the text is not a module, or an invalid one.
-pub fn valid_module(alloc: Global, text: &str) -> Option<ValidModule> {
+/// Returns the decoded module of a text. Returns none if the text is not a module.
+pub fn decoded_module(alloc: Global, text: &str) -> Option<Module> {
     let Ok(bytes) = assemble(alloc, text) else {
         return None;
     };
-    let Ok(decoded) = decode(alloc, &bytes) else {
-        return None;
-    };
-    validate(alloc, decoded).ok()
+    decode(alloc, &bytes).ok()
 }
 
 /// Returns the loaded module of a text. Returns none if the text is not a module, or an invalid one.
 pub fn loaded_module(alloc: Global, text: &str) -> Option<Rc<LoadedModule>> {
-    let Some(valid) = valid_module(alloc, text) else {
+    let Some(decoded) = decoded_module(alloc, text) else {
         return None;
     };
-    let Ok(loaded) = LoadedModule::new(alloc, valid) else {
+    let Ok(loaded) = LoadedModule::new(alloc, decoded) else {
         return None;
     };
     Rc::new(alloc, loaded).ok()

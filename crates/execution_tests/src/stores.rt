@@ -2,7 +2,7 @@
 
 use crate::modules::{append, empty_store, loaded_module, store_with};
 use crate::runs::calls_so;
-use core_types::{Extern, ExternType, OpWith, RefType, Val, ValType};
+use core_types::{Extern, ExternType, RefType, Val, ValType};
 use hostfunc::HostTable;
 use std::alloc::Global;
 use store::{Callee, ModuleFunction, Store, accepts};
@@ -107,21 +107,21 @@ fn looks_up_addresses(rt: HostRuntime) {
 }
 
 // An address, the instance of its function, and the number that the function returns.
-static FUNCTIONS: [(u32, u32, u32); 4] = [(0, 0, 10), (1, 1, 20), (2, 1, 21), (3, 1, 22)];
+static FUNCTIONS: [(u32, u32, u8); 4] = [(0, 0, 10), (1, 1, 20), (2, 1, 21), (3, 1, 22)];
 
 // Returns whether a function of the instance returns an i32, by a body of only this constant.
-fn gives(callee: Callee<'_>, instance: u32, number: u32) -> bool {
+fn gives(callee: Callee<'_>, instance: u32, number: u8) -> bool {
     let Callee::InModule(function) = callee else {
         return false;
     };
-    let body = &function.func.body;
-    let is_constant = body.len() == 1 && matches!(body.get(0), OpWith::I32Const(n) if n == number);
+    // the opcode, and the number in one byte
+    let is_constant = function.func.body.as_bytes() == [0x41, number].as_slice();
     let results = function.ty.results.as_slice();
     function.instance == instance && results == [ValType::I32].as_slice() && is_constant
 }
 
 // Returns whether the function at an address is such a function, in a store of the three modules.
-fn has_function(alloc: Global, address: u32, instance: u32, number: u32) -> bool {
+fn has_function(alloc: Global, address: u32, instance: u32, number: u8) -> bool {
     match store_with(alloc, &THREE) {
         Some(store) => match store.code().function(address) {
             Some(callee) => gives(callee, instance, number) && store.code().function(4).is_none(),

@@ -9,7 +9,8 @@ use crate::instructions::{
 };
 use crate::operands::{Opener, Stacks};
 use crate::types::{Signature, once, signature_of, takes_gives};
-use core_types::{LentOp, Op, OpWith, PlainOp, ValType, mark_of, plain_op};
+use binary::BodyReader;
+use core_types::{LentOp, Op, OpWith, PlainOp, ValType, lent, mark_of, plain_op};
 use std::alloc::{AllocError, Global};
 
 /// The place of a fault in a body, as the number of operations before it.
@@ -65,7 +66,7 @@ fn check_plain<'a>(
 }
 
 // Checks an operation.
-fn check<'a>(context: Context<'a>, stacks: &mut Stacks<'a>, op: LentOp<'a>) -> Result<(), Stop> {
+fn check<'a>(context: Context<'a>, stacks: &mut Stacks<'a>, op: LentOp<'_>) -> Result<(), Stop> {
     if let Some(mark) = mark_of(op) {
         return check_mark(context, stacks, mark);
     }
@@ -95,31 +96,54 @@ struct Halt {
     stop: Stop,
 }
 
-// Checks the operations of a body.
-fn check_operations<'a>(context: Context<'a>, stacks: &mut Stacks<'a>) -> Result<(), Halt> {
-    let body = &context.func.body;
-    for operation in 0..body.len() {
-        if let Err(stop) = check(context, stacks, body.get(operation)) {
-            return Err(Halt { operation, stop });
-        }
-        if stacks.is_too_long() {
-            let stop = Stop::TooLong;
-            return Err(Halt { operation, stop });
+// Checks the next operation of a body. Returns whether there was one.
+fn check_next<'a>(
+    context: Context<'a>,
+    stacks: &mut Stacks<'a>,
+    reader: &mut BodyReader<'_>,
+) -> Result<bool, Stop> {
+    if reader.opcode().is_none() {
+        return Ok(false);
+    }
+    let op = reader.any()?;
+    check(context, stacks, lent(&op))?;
+    if stacks.is_too_long() {
+        return Err(Stop::TooLong);
+    }
+    Ok(true)
+}
+
+// Checks the operations of a body. Returns their number.
+fn check_operations<'a>(
+    alloc: Global,
+    context: Context<'a>,
+    stacks: &mut Stacks<'a>,
+) -> Result<usize, Halt> {
+    let mut reader = BodyReader::new(alloc, &context.func.body);
+    for operation in 0..usize::MAX {
+        match check_next(context, stacks, &mut reader) {
+            Ok(true) => {}
+            Ok(false) => return Ok(operation),
+            Err(stop) => return Err(Halt { operation, stop }),
         }
     }
-    Ok(())
+    Ok(usize::MAX)
 }
 
 // Checks a body.
-fn check_body<'a>(context: Context<'a>, stacks: &mut Stacks<'a>) -> Result<(), Halt> {
+fn check_body<'a>(
+    alloc: Global,
+    context: Context<'a>,
+    stacks: &mut Stacks<'a>,
+) -> Result<(), Halt> {
     if let Err(stop) = begin(context, stacks) {
         return Err(Halt { operation: 0, stop });
     }
-    check_operations(context, stacks)?;
+    let operation = check_operations(alloc, context, stacks)?;
     match stacks.close() {
         Ok(_) => Ok(()),
         Err(fault) => Err(Halt {
-            operation: context.func.body.len(),
+            operation,
             stop: Stop::Fault(fault),
         }),
     }
@@ -128,7 +152,7 @@ fn check_body<'a>(context: Context<'a>, stacks: &mut Stacks<'a>) -> Result<(), H
 /// Returns the first fault of a body, if it has one. Returns none, too, for a body whose check takes very long.
 pub fn first_fault(alloc: Global, context: Context<'_>) -> Result<Option<Found>, AllocError> {
     let mut stacks = Stacks::new(alloc);
-    let Err(Halt { operation, stop }) = check_body(context, &mut stacks) else {
+    let Err(Halt { operation, stop }) = check_body(alloc, context, &mut stacks) else {
         return Ok(None);
     };
     match stop {

@@ -2,8 +2,8 @@
 
 use crate::decoding::{join, with_header};
 use crate::mnemonics::print_operation;
-use binary::decode;
-use core_types::Module;
+use binary::{BodyReader, decode};
+use core_types::{Module, lent};
 use std::alloc::{AllocError, Global};
 use testing::bytes_of;
 
@@ -161,8 +161,10 @@ fn module_around(alloc: Global, body: &[u8]) -> Result<Vec<u8>, AllocError> {
 fn first_operation(alloc: Global, decoded: &Module) -> Result<String, AllocError> {
     let mut text = String::new(alloc);
     if let Some(func) = decoded.funcs.as_slice().first() {
-        if func.body.len() > 0 {
-            print_operation(&mut text, func.body.get(0))?;
+        let mut reader = BodyReader::new(alloc, &func.body);
+        if reader.opcode().is_some() {
+            let op = reader.any()?;
+            print_operation(&mut text, lent(&op))?;
         }
     }
     Ok(text)

@@ -3,10 +3,11 @@
 use crate::mnemonics::{
     Printed, print_indexed, print_operation, print_types, reference_name, type_name,
 };
+use binary::BodyReader;
 use core_types::{
     DataMode, DataSegment, ElementItems, ElementMode, ElementSegment, Export, ExportDesc,
-    Expression, Func, FuncType, Global as ModuleGlobal, GlobalType, Import, ImportDesc, Limits,
-    Module, Mutability, TableType, ValType,
+    Expression, Func, FuncBody, FuncType, Global as ModuleGlobal, GlobalType, Import, ImportDesc,
+    Limits, Module, Mutability, TableType, ValType, lent,
 };
 use std::alloc::{AllocError, Global};
 
@@ -78,6 +79,19 @@ fn print_operations(out: &mut String, expression: &Expression) -> Printed {
     Ok(())
 }
 
+fn print_body(alloc: Global, out: &mut String, body: &FuncBody) -> Printed {
+    let mut reader = BodyReader::new(alloc, body);
+    for _ in 0..usize::MAX {
+        if reader.opcode().is_none() {
+            break;
+        }
+        let op = reader.any()?;
+        out.push_str(" ")?;
+        print_operation(out, lent(&op))?;
+    }
+    Ok(())
+}
+
 fn print_locals(out: &mut String, func: &Func) -> Printed {
     for index in 0..func.locals.len() {
         if let Some(ty) = func.locals.get(index) {
@@ -87,11 +101,11 @@ fn print_locals(out: &mut String, func: &Func) -> Printed {
     Ok(())
 }
 
-fn print_function(out: &mut String, func: &Func) -> Printed {
+fn print_function(alloc: Global, out: &mut String, func: &Func) -> Printed {
     print_indexed(out, " (func (type", func.ty)?;
     out.push_str(")")?;
     print_locals(out, func)?;
-    print_operations(out, &func.body)?;
+    print_body(alloc, out, &func.body)?;
     out.push_str(")")
 }
 
@@ -182,7 +196,7 @@ fn print_data(out: &mut String, segment: &DataSegment) -> Printed {
     out.push_str("\")")
 }
 
-fn print_declarations(out: &mut String, module: &Module) -> Printed {
+fn print_declarations(alloc: Global, out: &mut String, module: &Module) -> Printed {
     for ty in module.types.as_slice() {
         print_function_type(out, ty)?;
     }
@@ -190,7 +204,7 @@ fn print_declarations(out: &mut String, module: &Module) -> Printed {
         print_import(out, import)?;
     }
     for func in module.funcs.as_slice() {
-        print_function(out, func)?;
+        print_function(alloc, out, func)?;
     }
     for ty in module.tables.as_slice() {
         print_table(out, *ty)?;
@@ -224,7 +238,7 @@ fn print_exports_and_segments(out: &mut String, module: &Module) -> Printed {
 /// Returns the text of a module.
 pub fn text_of(alloc: Global, module: &Module) -> Result<String, AllocError> {
     let mut out = String::new(alloc);
-    print_declarations(&mut out, module)?;
+    print_declarations(alloc, &mut out, module)?;
     print_exports_and_segments(&mut out, module)?;
     Ok(out)
 }

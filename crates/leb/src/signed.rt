@@ -104,6 +104,19 @@ fn read_long_s32(bytes: &[u8], at: usize) -> Option<(i32, usize)>
     Some((value as i32, end))
 }
 
+// Like `read_long_s32`. Only here, there is room in memory for what it returns.
+#[inline(always)]
+fn read_other_s32(bytes: &[u8], at: usize) -> Option<(i32, usize)>
+    requires { at ≤ length bytes.now }
+    ensures within { IfSome result (λ f. (at < f.1) × (f.1 ≤ length bytes.now)) }
+    ensures found { IfSome result
+        (λ f. Reads (SpellsSigned 32) (drop at bytes.now) f.0 (drop f.1 bytes.now)) }
+    ensures none { IfNone result (NoFront (SpellsSigned 32) (drop at bytes.now)) }
+{
+    let (value, end) = read_long_s32(bytes, at)?;
+    Some((value, end))
+}
+
 /// Reads the signed 32-bit integer whose encoding begins at `at`, and returns it with the offset after the encoding.
 ///
 /// `at` must be at most the number of bytes. Returns `None` if no encoding begins there: the bytes end too early, it would take
@@ -119,7 +132,7 @@ pub fn read_s32(bytes: &[u8], at: usize) -> Option<(i32, usize)>
     if at < bytes.len() && bytes[at] < 0x80 {
         return Some((value_of_last(bytes[at]), at + 1));
     }
-    read_long_s32(bytes, at)
+    read_other_s32(bytes, at)
 }
 
 /// Reads the signed 33-bit integer whose encoding begins at `at`, and returns it with the offset after the encoding.

@@ -3,14 +3,14 @@ ghost use Rattle.meaning.specs.validation.Modules.{IsValid};
 ghost use Rattle.module_info.specs.Lines.{Tells, says_valid};
 ghost use Rattle.module_info.specs.Verdicts.{IsFound, IsFoundOf, decode_verdict, validate_verdict};
 
-use binary::{DecodeError, bytes_spell_one_module, decode};
-use core_types::Module;
+use binary::{BodyReader, DecodeError, bytes_spell_one_module, decode};
+use core_types::{Func, FuncBody, Module};
 use explanation::{
     explain_function, explain_limit, explain_malformed, explain_section, explain_unsupported,
 };
 use index_spaces::IndexSpaces;
 use module_text::write_module;
-use std::alloc::Global;
+use std::alloc::{AllocError, Global};
 use std::fmt::Display;
 use std::io::{self, Write};
 use validator::{Place, ValidateError, validate};
@@ -143,11 +143,33 @@ fn write_validate_error<W: Write>(
     }
 }
 
+// Returns the number of operations of a body, including those that begin and end a body in it.
+fn count_operations(alloc: Global, body: &FuncBody) -> Result<u64, AllocError> {
+    let mut reader = BodyReader::new(alloc, body);
+    for count in 0..u64::MAX {
+        if reader.opcode().is_none() {
+            return Ok(count);
+        }
+        reader.any()?;
+    }
+    Ok(u64::MAX)
+}
+
+// Returns the number of operations of all functions.
+fn count_all_operations(alloc: Global, funcs: &[Func]) -> Result<u64, AllocError> {
+    let mut count: u64 = 0;
+    for func in funcs {
+        count = count.saturating_add(count_operations(alloc, &func.body)?);
+    }
+    Ok(count)
+}
+
 // Returns the lines that describe a module, or none if memory runs out.
 fn lines_of(alloc: Global, module: &Module) -> Option<Vec<u8>> {
     let spaces = IndexSpaces::new(alloc, module).ok()?;
+    let operations = count_all_operations(alloc, module.funcs.as_slice()).ok()?;
     let mut lines = Vec::new(alloc);
-    match write_module(&mut lines, module, &spaces) {
+    match write_module(&mut lines, module, &spaces, operations) {
         Ok(()) => Some(lines),
         Err(_) => None,
     }

@@ -1,6 +1,6 @@
 use crate::types::{write_func, write_global, write_memory, write_table};
 use core_types::{
-    DataSegment, Export, ExportDesc, Func, FuncType, Import, ImportDesc, Limits, Module, TableType,
+    DataSegment, Export, ExportDesc, FuncType, Import, ImportDesc, Limits, Module, TableType,
 };
 use index_spaces::IndexSpaces;
 use std::io::{self, Write};
@@ -99,15 +99,6 @@ fn write_memories<W: Write>(out: &mut W, memories: &[Limits]) -> io::Result<()> 
     Ok(())
 }
 
-// Returns the number of operations of all bodies, including those that begin and end a body.
-fn count_operations(funcs: &[Func]) -> u64 {
-    let mut count: u64 = 0;
-    for func in funcs {
-        count = count.saturating_add(func.body.len() as u64);
-    }
-    count
-}
-
 fn count_bytes(datas: &[DataSegment]) -> u64 {
     let mut count: u64 = 0;
     for data in datas {
@@ -117,9 +108,8 @@ fn count_bytes(datas: &[DataSegment]) -> u64 {
 }
 
 // Writes the lines for functions and globals.
-fn write_functions<W: Write>(out: &mut W, module: &Module) -> io::Result<()> {
+fn write_functions<W: Write>(out: &mut W, module: &Module, operations: u64) -> io::Result<()> {
     let count = module.funcs.len();
-    let operations = count_operations(module.funcs.as_slice());
     writeln!(out, "functions {count}, operations {operations}")?;
     writeln!(out, "globals {}", module.globals.len())
 }
@@ -141,21 +131,23 @@ fn write_start<W: Write>(out: &mut W, module: &Module) -> io::Result<()> {
 }
 
 // Writes the lines for the module's own definitions.
-fn write_sizes<W: Write>(out: &mut W, module: &Module) -> io::Result<()> {
+fn write_sizes<W: Write>(out: &mut W, module: &Module, operations: u64) -> io::Result<()> {
     write_tables(out, module.tables.as_slice())?;
     write_memories(out, module.memories.as_slice())?;
-    write_functions(out, module)?;
+    write_functions(out, module, operations)?;
     write_segments(out, module)?;
     write_start(out, module)
 }
 
-/// Writes what a module imports, exports and defines, one line each, with its index spaces. Fails if the writer fails.
+/// Writes what a module imports, exports and defines, one line each, with its index spaces and the number of operations of its
+/// functions. Fails if the writer fails.
 pub fn write_module<W: Write>(
     out: &mut W,
     module: &Module,
     spaces: &IndexSpaces,
+    operations: u64,
 ) -> io::Result<()> {
     write_imports(out, module)?;
     write_exports(out, module, spaces)?;
-    write_sizes(out, module)
+    write_sizes(out, module, operations)
 }

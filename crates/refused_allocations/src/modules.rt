@@ -10,7 +10,7 @@ use std::alloc::Global;
 use std::rc::Rc;
 use store::LoadedModule;
 use testing::assemble;
-use validator::{ValidModule, ValidateError, validate};
+use validator::{ValidateError, validate};
 
 /// Returns the module of a text, or none if the text represents none.
 fn decoded_module(alloc: Global, text: &str) -> Option<Module> {
@@ -20,14 +20,18 @@ fn decoded_module(alloc: Global, text: &str) -> Option<Module> {
     decode(alloc, &bytes).ok()
 }
 
-// Returns the valid module of a text, or none if the text represents none or an invalid one.
-fn valid_module(alloc: Global, text: &str) -> Option<ValidModule> {
-    validate(alloc, decoded_module(alloc, text)?).ok()
+// Returns two modules that are alike.
+fn two_modules(alloc: Global) -> Option<Vec<Module>> {
+    let mut modules = Vec::new(alloc);
+    for _ in 0..2 {
+        modules.push(decoded_module(alloc, WHOLE)?).ok()?;
+    }
+    Some(modules)
 }
 
 /// Returns the loaded module of a text, or none if the text represents none or an invalid one.
 pub fn loaded_module(alloc: Global, text: &str) -> Option<Rc<LoadedModule>> {
-    let Ok(loaded) = LoadedModule::new(alloc, valid_module(alloc, text)?) else {
+    let Ok(loaded) = LoadedModule::new(alloc, decoded_module(alloc, text)?) else {
         return None;
     };
     Rc::new(alloc, loaded).ok()
@@ -79,10 +83,7 @@ pub struct Validating {
 impl Validating {
     /// Prepares everything that the call needs. Returns none if that fails.
     pub fn prepare(alloc: Global) -> Option<Validating> {
-        let mut modules = Vec::new(alloc);
-        for _ in 0..2 {
-            modules.push(decoded_module(alloc, WHOLE)?).ok()?;
-        }
+        let modules = two_modules(alloc)?;
         Some(Validating { alloc, modules })
     }
 }
@@ -100,44 +101,45 @@ impl Attempt for Validating {
     }
 }
 
-/// The flattening of a module.
+/// The flattening of a module. Each attempt takes a module, so there are two that are alike.
 #[derive(Drop)]
 pub struct Flattening {
     alloc: Global,
-    module: ValidModule,
+    modules: Vec<Module>,
 }
 
 impl Flattening {
     /// Prepares everything that the call needs. Returns none if that fails.
     pub fn prepare(alloc: Global) -> Option<Flattening> {
-        let module = valid_module(alloc, WHOLE)?;
-        Some(Flattening { alloc, module })
+        let modules = two_modules(alloc)?;
+        Some(Flattening { alloc, modules })
     }
 }
 
 impl Attempt for Flattening {
     fn attempt(&mut self) -> Answer {
-        match flatten(self.alloc, &self.module) {
-            Ok(flat) => Answer::with_memory(flat.functions.len() == 3),
-            Err(_) => Answer::Wanting,
+        let Some(module) = self.modules.pop() else {
+            return Answer::Wrong;
+        };
+        match flatten(self.alloc, module) {
+            Ok((_, flat)) => Answer::with_memory(flat.functions.len() == 3),
+            Err(ValidateError::OutOfMemory) => Answer::Wanting,
+            Err(_) => Answer::Wrong,
         }
     }
 }
 
-/// The loading of a valid module. Each attempt takes a module, so there are two that are alike.
+/// The loading of a module. Each attempt takes a module, so there are two that are alike.
 #[derive(Drop)]
 pub struct Loading {
     alloc: Global,
-    modules: Vec<ValidModule>,
+    modules: Vec<Module>,
 }
 
 impl Loading {
     /// Prepares everything that the call needs. Returns none if that fails.
     pub fn prepare(alloc: Global) -> Option<Loading> {
-        let mut modules = Vec::new(alloc);
-        for _ in 0..2 {
-            modules.push(valid_module(alloc, WHOLE)?).ok()?;
-        }
+        let modules = two_modules(alloc)?;
         Some(Loading { alloc, modules })
     }
 }
@@ -149,7 +151,8 @@ impl Attempt for Loading {
         };
         match LoadedModule::new(self.alloc, module) {
             Ok(loaded) => Answer::with_memory(is_whole(loaded.module())),
-            Err(_) => Answer::Wanting,
+            Err(ValidateError::OutOfMemory) => Answer::Wanting,
+            Err(_) => Answer::Wrong,
         }
     }
 }

@@ -1,7 +1,7 @@
 -- An else and an end are passed.
 use Rattle.std.proofs.Common.{◌≡◌, ℕ, suc, max, Bool, false, List, [], ◌∷◌, ◌++◌, length, map, refl, ap, ap₂, sym, subst, ◌∙◌, arith, length-append}
 use Rattle.std.proofs.lemmas.List.{length-map}
-use Rattle.std.proofs.lemmas.List.Elements.{All-cons, All-head, All-nil, All-tail, All-weaker}
+use Rattle.std.proofs.lemmas.List.Elements.{All-cons, All-head, All-tail, All-weaker}
 use Rattle.std.specs.List.{All}
 use Rattle.std.specs.Prelude.{Option}
 use Rattle.core_types.specs.declared.op.Op.{Op}
@@ -10,7 +10,7 @@ use Rattle.meaning.specs.structure.Bodies.{Body, rests}
 use Rattle.sidetable.specs.Completion.{ChangesEntries, Completes, IsLabelSince, ranges_since, with_targets}
 use Rattle.sidetable.specs.Counts.{Signatures, height_or_zero}
 use Rattle.sidetable.specs.Flat.{FlatOp, Jump}
-use Rattle.sidetable.specs.Flattening.{EndsAs, IsOpen, PassesTo, greatest_left, left, targets_left}
+use Rattle.sidetable.specs.Flattening.{EndsAs, IsBegun, IsOpen, PassesTo, greatest_left, left, targets_left}
 use Rattle.sidetable.specs.Labels.{IsOpenLevel, OpenBody, allows_else, has_second, open_bodies, open_body, second_targets, targets_of}
 use Rattle.sidetable.specs.Packing.{made, unpacked}
 use Rattle.sidetable.specs.Shapes.{BehindElse, Closes}
@@ -24,8 +24,9 @@ use Rattle.sidetable.specs.declared.operations.TransferInstruction.TheVariants a
 use Rattle.sidetable.proofs.Completing.{AreLabels, completes-aimed, copies-aimed, final-within, grows-aimed, label-aimed}
 use Rattle.sidetable.proofs.Left.{greatest-else, greatest-end, left-else, left-end}
 use Rattle.sidetable.proofs.Making.{makes-on}
+use Rattle.sidetable.proofs.Passing.{never-passed}
 use Rattle.sidetable.proofs.Shapes.{no-else}
-use Rattle.sidetable.proofs.TargetsLeft.{holds-of-targets, second-weaker, targets-else, targets-end}
+use Rattle.sidetable.proofs.TargetsLeft.{holds-of-second, holds-of-targets, second-weaker, targets-else, targets-end}
 
 -- Where an else may follow, its place is to come.
 pub second-to-come : (p : Pending) (others : List Bool) (ops : List Op) → BehindElse (Closes ops) (has_second p ∷ others)
@@ -57,27 +58,24 @@ module _ (s : Signatures) (outermost : ℕ) (old new : Flattening) (level : Leve
     (height_is : new.height ≡ level.inside)
     (place_is : place ≡ suc (length old.operations.items)) (tables : ChangesEntries old.tables new.tables (with_targets old.tables.entries.items (second_targets level.pending place)))
     (ops : List Op) where
-  to-come : (before : SideTables) → IsOpen before outermost old (op.Else ∷ ops) → (number : ℕ) × (level.pending ≡ SecondAndEnd number) × Closes ops (false ∷ map allows_else levels)
-  to-come before opened = second-to-come level.pending (map allows_else levels) ops (rw levels_are at opened.shape)
+  to-come : Closes (op.Else ∷ ops) (map allows_else old.levels) → (number : ℕ) × (level.pending ≡ SecondAndEnd number) × Closes ops (false ∷ map allows_else levels)
+  to-come shape = second-to-come level.pending (map allows_else levels) ops (rw levels_are at shape)
 
-  level-is : (before : SideTables) → IsOpen before outermost old (op.Else ∷ ops) → All (IsOpenLevel before old.tables) (level ∷ levels)
-  level-is before opened = rw levels_are at opened.levels
+  level-is : (before : SideTables) → IsBegun before outermost old → All (IsOpenLevel before old.tables) (level ∷ levels)
+  level-is before begun = rw levels_are at begun.levels
 
   changed : (number : ℕ) → level.pending ≡ SecondAndEnd number → ChangesEntries old.tables new.tables (with_targets old.tables.entries.items ((number, place) ∷ []))
   changed number pending = rw pending at tables
 
-  labels : (before : SideTables) → IsOpen before outermost old (op.Else ∷ ops) → (number : ℕ) → level.pending ≡ SecondAndEnd number
-      → AreLabels (length before.entries.items) (length old.tables.entries.items) (ranges_since before old.tables) ((number, place) ∷ [])
-  labels before opened number pending =
-      let second : IsLabelSince before old.tables number = rw pending at (All-head (IsOpenLevel before old.tables) level levels (level-is before opened)).1 in
-      All-cons (λ (t : ℕ × ℕ). IsLabelSince before old.tables t.0) (number, place) [] second (All-nil (λ (t : ℕ × ℕ). IsLabelSince before old.tables t.0))
+  abbrev seconds : List (ℕ × ℕ)
+  seconds = second_targets level.pending place
 
   size : length new.operations.items ≡ suc (length old.operations.items)
   size = ap length items ∙ length-append old.operations.items (packed.Transfer transfer.Jump level.label ∷ []) ∙ omega arith
 
   ends-before : (before final : SideTables) → IsOpen before outermost old (op.Else ∷ ops) → EndsAs before outermost new ops final → EndsAs before outermost old (op.Else ∷ ops) final
   ends-before before final opened ends =
-      let (number, pending, closes) = to-come before opened in
+      let (number, pending, closes) = to-come opened.shape in
       let none = no-else ops (map allows_else levels) closes in
       let us : List (ℕ × ℕ) = targets_left outermost new.levels (length new.operations.items) (rests ops) in
       let same : (number, place) ∷ us ≡ targets_left outermost old.levels (length old.operations.items) (rests (op.Else ∷ ops)) =
@@ -92,26 +90,23 @@ module _ (s : Signatures) (outermost : ℕ) (old new : Flattening) (level : Leve
 
   pub else-passes : PassesTo s outermost old (op.Else ∷ ops) ops new
   else-passes = record {
-    opens = λ before opened.
-        let (number, pending, closes) = to-come before opened in
-        let ts : List (ℕ × ℕ) = (number, place) ∷ [] in
-        let is = labels before opened number pending in
-        let now = changed number pending in
-        let first = All-head (IsOpenLevel before old.tables) level levels (level-is before opened) in
+    begun = λ before begun.
+        let (label, second) = All-head (IsOpenLevel before old.tables) level levels (level-is before begun) in
+        let is = holds-of-second (IsLabelSince before old.tables) level.pending place second in
         record {
-          grows = grows-aimed before old.tables new.tables ts now is opened.grows;
-          copies = copies-aimed before old.tables new.tables ts now is opened.copies;
-          outer = label-aimed before old.tables new.tables ts now outermost opened.outer;
-          levels = rw new_levels (All-cons (IsOpenLevel before new.tables) (in_second level) levels (label-aimed before old.tables new.tables ts now level.label first.0, tt {0})
-              (levels-aimed before old.tables new.tables ts levels now (All-tail (IsOpenLevel before old.tables) level levels (level-is before opened))));
-          shape = rw new_levels closes;
+          grows = grows-aimed before old.tables new.tables seconds tables is begun.grows;
+          copies = copies-aimed before old.tables new.tables seconds tables is begun.copies;
+          outer = label-aimed before old.tables new.tables seconds tables outermost begun.outer;
+          levels = rw new_levels (All-cons (IsOpenLevel before new.tables) (in_second level) levels (label-aimed before old.tables new.tables seconds tables level.label label, tt {0})
+              (levels-aimed before old.tables new.tables seconds levels tables (All-tail (IsOpenLevel before old.tables) level levels (level-is before begun))));
         };
+    shape = λ shape. let (number, pending, closes) = to-come shape in rw new_levels closes;
     ends = ends-before;
     makes = λ before final whole most opened ends m.
-        let (number, pending, closes) = to-come before opened in
+        let (number, pending, closes) = to-come opened.shape in
         let none = no-else ops (map allows_else levels) closes in
-        let first = All-head (IsOpenLevel before old.tables) level levels (level-is before opened) in
-        let within = final-within before old.tables final (targets_left outermost old.levels (length old.operations.items) (rests (op.Else ∷ ops))) level.label opened.copies
+        let first = All-head (IsOpenLevel before old.tables) level levels (level-is before opened.begun) in
+        let within = final-within before old.tables final (targets_left outermost old.levels (length old.operations.items) (rests (op.Else ∷ ops))) level.label opened.begun.copies
         (ends-before before final opened ends) first.0.within in
         let before_ops = made final old.operations.items in
         let e = entry_of_number final outermost in
@@ -135,27 +130,26 @@ module _ (s : Signatures) (outermost : ℕ) (old new : Flattening) (level : Leve
   abbrev ended : List (ℕ × ℕ)
   ended = targets_of level.pending level.label end end
 
-  open-level : (before : SideTables) → IsOpen before outermost old (op.End ∷ ops) → All (IsOpenLevel before old.tables) (level ∷ new.levels)
-  open-level before opened = rw levels_are at opened.levels
+  open-level : (before : SideTables) → IsBegun before outermost old → All (IsOpenLevel before old.tables) (level ∷ new.levels)
+  open-level before begun = rw levels_are at begun.levels
 
-  ended-labels : (before : SideTables) → IsOpen before outermost old (op.End ∷ ops)
+  ended-labels : (before : SideTables) → IsBegun before outermost old
       → AreLabels (length before.entries.items) (length old.tables.entries.items) (ranges_since before old.tables) ended
-  ended-labels before opened =
-      let (label, second) = All-head (IsOpenLevel before old.tables) level new.levels (open-level before opened) in
+  ended-labels before begun =
+      let (label, second) = All-head (IsOpenLevel before old.tables) level new.levels (open-level before begun) in
       holds-of-targets (IsLabelSince before old.tables) level.pending level.label end end label second
 
   pub end-passes : PassesTo s outermost old (op.End ∷ ops) ops new
   end-passes = record {
-    opens = λ before opened.
-        let is = ended-labels before opened in
-        let shape : Closes (op.End ∷ ops) (map allows_else (level ∷ new.levels)) = rw levels_are at opened.shape in
+    begun = λ before begun.
+        let is = ended-labels before begun in
         record {
-          grows = grows-aimed before old.tables new.tables ended tables is opened.grows;
-          copies = copies-aimed before old.tables new.tables ended tables is opened.copies;
-          outer = label-aimed before old.tables new.tables ended tables outermost opened.outer;
-          levels = levels-aimed before old.tables new.tables ended new.levels tables (All-tail (IsOpenLevel before old.tables) level new.levels (open-level before opened));
-          shape = shape;
+          grows = grows-aimed before old.tables new.tables ended tables is begun.grows;
+          copies = copies-aimed before old.tables new.tables ended tables is begun.copies;
+          outer = label-aimed before old.tables new.tables ended tables outermost begun.outer;
+          levels = levels-aimed before old.tables new.tables ended new.levels tables (All-tail (IsOpenLevel before old.tables) level new.levels (open-level before begun));
         };
+    shape = λ shape. let behind : Closes (op.End ∷ ops) (map allows_else (level ∷ new.levels)) = rw levels_are at shape in behind;
     ends = λ before final opened ends.
         let us : List (ℕ × ℕ) = targets_left outermost new.levels (length new.operations.items) (rests ops) in
         let same : ended ++ us ≡ targets_left outermost old.levels (length old.operations.items) (rests (op.End ∷ ops)) =
@@ -175,3 +169,11 @@ module _ (s : Signatures) (outermost : ℕ) (old new : Flattening) (level : Leve
           within = rw items m.within;
         };
   }
+
+-- ---- where no body is open
+
+pub no-body-passes : (s : Signatures) (outermost : ℕ) (f : Flattening) (ops : List Op) → f.levels ≡ [] → PassesTo s outermost f (op.End ∷ ops) ops f × PassesTo s outermost f (op.Else ∷ ops) ops f
+no-body-passes s outermost f ops none = (
+  never-passed s outermost f (op.End ∷ ops) ops (λ shape. let never : Closes (op.End ∷ ops) [] = rw none at shape in never),
+  never-passed s outermost f (op.Else ∷ ops) ops (λ shape. let never : Closes (op.Else ∷ ops) [] = rw none at shape in never),
+)

@@ -8,6 +8,7 @@ mod Ending
 mod Functions
 mod Growth
 mod Heights
+mod InTurn
 mod LabelNumbers
 mod Left
 mod Lengths

@@ -9,7 +9,7 @@ use Rattle.meaning.specs.structure.Bodies.{rests}
 use Rattle.sidetable.specs.Completion.{Adds, ChangesEntries, Completes, EndsBehind, IsLabelSince, entry_in, ranges_since, with_targets}
 use Rattle.sidetable.specs.Counts.{Signatures, height_or_zero}
 use Rattle.sidetable.specs.Flat.{FlatOp}
-use Rattle.sidetable.specs.Flattening.{EndsAs, IsOpen, PassesTo, Pushes, targets_left}
+use Rattle.sidetable.specs.Flattening.{EndsAs, IsBegun, IsOpen, PassesTo, Pushes, targets_left}
 use Rattle.sidetable.specs.Labels.{IfSecond, IsOpenLevel, allows_else, open_bodies, open_body, targets_of}
 use Rattle.sidetable.specs.Packing.{Packs, made}
 use Rattle.sidetable.specs.Shapes.{Closes}
@@ -67,12 +67,12 @@ module _ (s : Signatures) (outermost : ℕ) (old new : Flattening) (p : PackedOp
       (rw begins.tables.pairs (continues-same old.tables.pairs.items))
       (rw begins.tables.branch_ranges refl)
 
-  pushed-label : (before : SideTables) (all : List Op) → IsOpen before outermost old all → (n : ℕ) → IsPushed old.tables new.tables n → IsLabelSince before new.tables n
-  pushed-label before all opened n (behind, within) =
-      label-pushed before new.tables n (length old.tables.entries.items) (omega (arith, behind, ap length opened.grows.entries.1, length-append before.entries.items opened.grows.entries.0))
+  pushed-label : (before : SideTables) → IsBegun before outermost old → (n : ℕ) → IsPushed old.tables new.tables n → IsLabelSince before new.tables n
+  pushed-label before begun n (behind, within) =
+      label-pushed before new.tables n (length old.tables.entries.items) (omega (arith, behind, ap length begun.grows.entries.1, length-append before.entries.items begun.grows.entries.0))
       within behind
       (subst (All (EndsWithin (length old.tables.entries.items))) (sym (since-same before old.tables new.tables begins.tables.branch_ranges))
-      (all-end-within old.tables.entries.items (ranges_since before old.tables) opened.copies.copying))
+      (all-end-within old.tables.entries.items (ranges_since before old.tables) begun.copies.copying))
 
   -- where it comes before these operations, and its bodies end so
   module _ (op : Op) (ops : List Op) (second end : ℕ) (aimed : List Entry)
@@ -93,25 +93,25 @@ module _ (s : Signatures) (outermost : ℕ) (old new : Flattening) (p : PackedOp
         let size : length new.operations.items ≡ suc (length old.operations.items) = ap length begins.operations ∙ length-append old.operations.items (p ∷ []) ∙ omega arith in
         let same : targets_left outermost new.levels (length new.operations.items) (rests ops) ≡ us = ap₂ (λ (ls : List Level) (n : ℕ). targets_left outermost ls n (rests ops)) begins.levels
         size ∙ targets_are opened.shape in
-        completes-before before old.tables new.tables final ts us aimed [] opened.grows opened.copies (rw begins.tables.branch_ranges (sym (append-nil old.tables.branch_ranges.items)))
+        completes-before before old.tables new.tables final ts us aimed [] opened.begun.grows opened.begun.copies (rw begins.tables.branch_ranges (sym (append-nil old.tables.branch_ranges.items)))
         (All-nil (BeginsAt (length old.tables.entries.items))) (All-nil (EndsWithin (length old.tables.entries.items + length aimed)))
-        adds.grows.constants adds.grows.pairs (entries_are ts (targets-below before outermost old (op ∷ ops) (op ∷ ops) opened (length old.operations.items)))
+        adds.grows.constants adds.grows.pairs (entries_are ts (targets-below before outermost old (op ∷ ops) opened.begun (length old.operations.items)))
         (subst (λ (xs : List (ℕ × ℕ)). Completes before new.tables xs final) same ends)
 
     pub mark-passes : PassesTo s outermost old (op ∷ ops) ops new
     mark-passes = record {
-      opens = λ before opened. record {
-        grows = grows-more before old.tables new.tables opened.grows adds.grows;
-        copies = copies-more before old.tables new.tables opened.grows opened.copies adds;
-        outer = label-more before old.tables new.tables outermost opened.grows opened.outer adds;
+      begun = λ before begun. record {
+        grows = grows-more before old.tables new.tables begun.grows adds.grows;
+        copies = copies-more before old.tables new.tables begun.grows begun.copies adds;
+        outer = label-more before old.tables new.tables outermost begun.grows begun.outer adds;
         levels = rw begins.levels (All-cons (IsOpenLevel before new.tables) level old.levels (
-          pushed-label before (op ∷ ops) opened level.label label_pushed,
+          pushed-label before begun level.label label_pushed,
           second-weaker (IsPushed old.tables new.tables) (IsLabelSince before new.tables)
-              (pushed-label before (op ∷ ops) opened) level.pending second_pushed,
+              (pushed-label before begun) level.pending second_pushed,
         )
-            (levels-more before old.tables new.tables old.levels opened.grows adds opened.levels));
-        shape = rw begins.levels (shape opened.shape);
+            (levels-more before old.tables new.tables old.levels begun.grows adds begun.levels));
       };
+      shape = λ closes. rw begins.levels (shape closes);
       ends = λ before final opened ends. (both before final opened ends).0;
       makes = λ before final whole most opened ends m.
           let (o, packs, on) = goes opened.shape final (both before final opened ends).1 in

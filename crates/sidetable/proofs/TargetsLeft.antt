@@ -10,7 +10,7 @@ use Rattle.core_types.specs.declared.op.PlainOp.{PlainOp}
 use Rattle.meaning.specs.structure.Bodies.{Body, IfElse, Kind, Nested, Part, Rests, first_part, other_parts, rests}
 use Rattle.sidetable.specs.Flat.{size}
 use Rattle.sidetable.specs.Flattening.{targets_around, targets_left}
-use Rattle.sidetable.specs.Labels.{IfSecond, targets_of}
+use Rattle.sidetable.specs.Labels.{IfSecond, targets_of, second_targets}
 use Rattle.sidetable.specs.declared.labels.Level.{Level}
 use Rattle.sidetable.specs.declared.labels.Pending.{Pending}
 use Rattle.sidetable.specs.declared.labels.Pending.TheVariants.{Nothing, End, SecondAndEnd}
@@ -80,6 +80,11 @@ module _ (P : ℕ → Type 0) where
   holds-of-targets Nothing label second end h k = All-nil OfTarget
   holds-of-targets End label second end h k = All-cons OfTarget (label, end) [] h (All-nil OfTarget)
   holds-of-targets (SecondAndEnd number) label second end h k = All-cons OfTarget (number, second) ((label, end) ∷ []) k (All-cons OfTarget (label, end) [] h (All-nil OfTarget))
+
+  pub holds-of-second : (p : Pending) (place : ℕ) → IfSecond P p → All (λ (t : ℕ × ℕ). P t.0) (second_targets p place)
+  holds-of-second Nothing place k = All-nil OfTarget
+  holds-of-second End place k = All-nil OfTarget
+  holds-of-second (SecondAndEnd number) place k = All-cons OfTarget (number, place) [] k (All-nil OfTarget)
 
   pub holds-around : (outermost : ℕ) → P outermost → (levels : List Level) (other : Option Body) (at : ℕ) (around : List Part) → All HoldsOfLevel levels
       → All (λ (t : ℕ × ℕ). P t.0) (targets_around outermost levels other at around)

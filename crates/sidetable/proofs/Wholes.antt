@@ -9,7 +9,7 @@ use Rattle.meaning.specs.structure.Bodies.{Body, rests, writing}
 use Rattle.sidetable.specs.Completion.{AreCopies, ChangesEntries, Completes, EndsBehind, IsCopying, IsLabelSince, IsOutside, all_copied, ranges_since, with_target, with_targets}
 use Rattle.sidetable.specs.Counts.{Signatures, height_or_zero}
 use Rattle.sidetable.specs.Flat.{FlatOp, entry_of, flat, function_entry, greatest, size}
-use Rattle.sidetable.specs.Flattening.{EndsAs, IsMade, IsOpen, Makes, PassesTo, targets_left}
+use Rattle.sidetable.specs.Flattening.{EndsAs, IsBegun, IsMade, IsOpen, Makes, PassesTo, Starts, targets_left}
 use Rattle.sidetable.specs.Labels.{IsOpenLevel, allows_else}
 use Rattle.sidetable.specs.Packing.{IsWithin, made}
 use Rattle.sidetable.specs.Shapes.{Closes}
@@ -22,30 +22,21 @@ use Rattle.sidetable.proofs.Completing.{AreLabels, completes-aimed, completes-be
 use Rattle.sidetable.proofs.CopiedEntries.{BeginsAt, EndsWithin, in-order-later}
 use Rattle.sidetable.proofs.Growth.{all-within-kept, continues-same, grows-same, made-kept}
 use Rattle.sidetable.proofs.Marks.{first-in-the-end}
-use Rattle.sidetable.proofs.Passing.{with-tables}
+use Rattle.sidetable.proofs.Passing.{opens-on, with-tables}
 use Rattle.sidetable.proofs.Shapes.{closes-writing}
 use Rattle.sidetable.proofs.Targets.{IsBelow, one-aimed}
 
 -- ---- the start of a function
 
--- A function begins: the entry of its label was pushed, and no body is open.
-pub record Starts (before : SideTables) (outermost : ℕ) (f : Flattening) (locals results : ℕ) : Type 0 where
-  pub tables : ChangesEntries before f.tables (before.entries.items ++ (entry_of 0 results locals ∷ []))
-  pub outer : outermost ≡ length before.entries.items
-  pub levels : f.levels ≡ []
-  pub height : f.height ≡ Some locals
-  pub greatest : f.greatest ≡ locals + results
-
-module _ (before : SideTables) (outermost : ℕ) (f : Flattening) (locals results : ℕ) (starts : Starts before outermost f locals results) (ops : List Op) (body : Body)
-    (written : ops ≡ writing body) where
+module _ (before : SideTables) (outermost : ℕ) (f : Flattening) (locals results : ℕ) (starts : Starts before outermost f locals results) where
   none-in : (tables : SideTables) → ranges_since tables tables ≡ []
   none-in tables = drop_all (length tables.branch_ranges.items) tables.branch_ranges.items (omega arith)
 
   none-since : ranges_since before f.tables ≡ []
   none-since = since-same before before f.tables starts.tables.branch_ranges ∙ none-in before
 
-  pub opens-first : IsOpen before outermost f ops
-  opens-first = record {
+  pub begun-first : IsBegun before outermost f
+  begun-first = record {
     grows = (adds-no-range before f.tables (_, starts.tables.entries) (rw starts.tables.constants (continues-same before.constants.items))
         (rw starts.tables.pairs (continues-same before.pairs.items)) (rw starts.tables.branch_ranges refl)).grows;
     copies = rw none-since (record { in_order = tt {0}; copying = All-nil (IsCopying f.tables.entries.items) });
@@ -55,10 +46,12 @@ module _ (before : SideTables) (outermost : ℕ) (f : Flattening) (locals result
       outside = All-nil (IsOutside outermost);
     });
     levels = rw starts.levels (All-nil (IsOpenLevel before f.tables));
-    shape = rw (starts.levels, written) (closes-writing body);
   }
 
-  module _ (whole : (rests ops).here.body ≡ body) (final : SideTables) (ends : EndsAs before outermost f ops final) where
+  pub opens-first : (ops : List Op) (body : Body) → ops ≡ writing body → IsOpen before outermost f ops
+  opens-first ops body written = record { begun = begun-first; shape = rw (starts.levels, written) (closes-writing body) }
+
+  module _ (ops : List Op) (body : Body) (whole : (rests ops).here.body ≡ body) (final : SideTables) (ends : EndsAs before outermost f ops final) where
     both : Completes before before [] final × EndsBehind (length before.entries.items) [] (function_entry locals results (length f.operations.items) body ∷ []) final.entries.items
     both =
         let at = length f.operations.items in
@@ -101,25 +94,25 @@ no-levels : (levels : List Level) → Closes [] (map allows_else levels) → lev
 no-levels [] closes = refl
 no-levels (l ∷ levels) closes = absurd closes
 
-module _ (before : SideTables) (outermost : ℕ) (f : Flattening) (opened : IsOpen before outermost f []) (aimed : SideTables) (end : ℕ) (end_is : end ≡ length f.operations.items)
+module _ (before : SideTables) (outermost : ℕ) (f : Flattening) (begun : IsBegun before outermost f) (aimed : SideTables) (end : ℕ) (end_is : end ≡ length f.operations.items)
     (changed : ChangesEntries f.tables aimed (with_target f.tables.entries.items outermost end)) where
   last-labels : AreLabels (length before.entries.items) (length f.tables.entries.items) (ranges_since before f.tables) ((outermost, end) ∷ [])
-  last-labels = All-cons (λ (t : ℕ × ℕ). IsLabelSince before f.tables t.0) (outermost, end) [] opened.outer (All-nil (λ (t : ℕ × ℕ). IsLabelSince before f.tables t.0))
+  last-labels = All-cons (λ (t : ℕ × ℕ). IsLabelSince before f.tables t.0) (outermost, end) [] begun.outer (All-nil (λ (t : ℕ × ℕ). IsLabelSince before f.tables t.0))
 
   pub last-copies : AreCopies 0 aimed.entries.items (ranges_since before aimed)
   last-copies =
-      let copies = copies-aimed before f.tables aimed ((outermost, end) ∷ []) changed last-labels opened.copies in
+      let copies = copies-aimed before f.tables aimed ((outermost, end) ∷ []) changed last-labels begun.copies in
       record { in_order = in-order-later (length before.entries.items) 0 (ranges_since before aimed) (omega arith) copies.in_order; copying = copies.copying }
 
   pub last-ranges : length before.branch_ranges.items ≤ length aimed.branch_ranges.items
-  last-ranges = let grows = grows-aimed before f.tables aimed ((outermost, end) ∷ []) changed last-labels opened.grows in omega
+  last-ranges = let grows = grows-aimed before f.tables aimed ((outermost, end) ∷ []) changed last-labels begun.grows in omega
       (arith, ap length grows.branch_ranges.1, length-append before.branch_ranges.items grows.branch_ranges.0)
 
-  pub ends-last : (final : SideTables) → ChangesEntries aimed final (all_copied final.entries.items (ranges_since before aimed) aimed.entries.items) → EndsAs before outermost f [] final
-  ends-last final copied =
+  pub ends-last : Closes [] (map allows_else f.levels) → (final : SideTables) → ChangesEntries aimed final (all_copied final.entries.items (ranges_since before aimed) aimed.entries.items) → EndsAs before outermost f [] final
+  ends-last shape final copied =
       let same : (outermost, end) ∷ [] ≡ targets_left outermost f.levels (length f.operations.items) (rests []) =
       ap (λ (n : ℕ). (outermost, n) ∷ []) (end_is ∙ sym (add-zero (length f.operations.items)))
-      ∙ ap (λ (ls : List Level). targets_left outermost ls (length f.operations.items) (rests [])) (sym (no-levels f.levels opened.shape)) in
+      ∙ ap (λ (ls : List Level). targets_left outermost ls (length f.operations.items) (rests [])) (sym (no-levels f.levels shape)) in
       subst (λ (ts : List (ℕ × ℕ)). Completes before f.tables ts final) same (completes-aimed before f.tables aimed final ((outermost, end) ∷ []) [] changed (record {
         entries = ([], copied.entries ∙ sym (append-nil (all_copied final.entries.items (ranges_since before aimed) aimed.entries.items)));
         others = record {
@@ -146,12 +139,12 @@ pub is-made : (s : Signatures) (before : SideTables) (outermost : ℕ) (f g : Fl
 is-made s before outermost f g locals results ops body final most starts written whole within passes ends most_is =
     let opened = opens-first before outermost f locals results starts ops body written in
     let ends_first = passes.ends before final opened ends in
-    let grows = grows-to-the-end before outermost f locals results starts ops body written whole final ends_first in
-    let m = passes.makes before final _ _ opened ends (makes-first before outermost f locals results starts ops body written whole final ends_first s within) in
-    let (made_is, height) = makes-last s final before outermost g _ _ (passes.opens before opened) m in
+    let grows = grows-to-the-end before outermost f locals results starts ops body whole final ends_first in
+    let m = passes.makes before final _ _ opened ends (makes-first before outermost f locals results starts ops body whole final ends_first s within) in
+    let (made_is, height) = makes-last s final before outermost g _ _ (opens-on s outermost f g ops [] passes before opened) m in
     record {
       operations = made_is ∙ ap₂ (λ (os : List FlatOp) (e : Entry). os ++ flat s e (e ∷ []) (Some locals) (length f.operations.items) body)
-          (made-kept before final grows f.operations.items within) (outermost-is before outermost f locals results starts ops body written whole final ends_first);
+          (made-kept before final grows f.operations.items within) (outermost-is before outermost f locals results starts ops body whole final ends_first);
       height = most_is ∙ height;
       within = m.within;
     }

@@ -1,15 +1,13 @@
 -- Flattening, from the first operation with its marks to the last.
-use Rattle.std.specs.Prelude.{Vec, ◌≡◌, ◌≢◌, ℕ, suc, ◌+◌, ◌<◌, ◌^◌, Bool, true, false, List, [], ◌∷◌, ◌++◌, length, map, max, slice_get, Option, Some, None}
+use Rattle.std.specs.Prelude.{Vec, ◌≡◌, ℕ, suc, ◌+◌, ◌<◌, ◌^◌, List, [], ◌∷◌, ◌++◌, length, map, max, Option, Some, None}
 use Rattle.std.specs.List.{All}
 use Rattle.std.specs.declared.alloc.Global.{Global}
 use Rattle.core_types.specs.declared.op.Op.{Op}
-use Rattle.core_types.specs.declared.op.Op.TheVariants.{Plain}
-use Rattle.core_types.specs.declared.op.PlainOp.{PlainOp}
 use Rattle.meaning.specs.structure.Bodies.{Body, Part, Rests, first_part, other_parts, rests}
-use Rattle.sidetable.specs.Completion.{AreCopies, Completes, IsLabelSince, ranges_since}
+use Rattle.sidetable.specs.Completion.{AreCopies, ChangesEntries, Completes, IsLabelSince, ranges_since}
 use Rattle.sidetable.specs.Counts.{Signatures, height_or_zero}
 use Rattle.core_types.specs.declared.module.Func.{Func}
-use Rattle.sidetable.specs.Flat.{FlatOp, Jump, flat, function_entry, function_greatest, greatest, size}
+use Rattle.sidetable.specs.Flat.{FlatOp, Jump, entry_of, flat, function_entry, function_greatest, greatest, size}
 use Rattle.sidetable.specs.FlatModules.{AreFlat, AreWithin, IsFlat, operations_of}
 use Rattle.sidetable.specs.Labels.{IsOpenLevel, OpenBody, all_entries, allows_else, open_bodies, targets_of}
 use Rattle.sidetable.specs.Packing.{IsWithin, made}
@@ -18,7 +16,6 @@ use Rattle.sidetable.specs.SideTables.{Continues, Grows, SideTables, entry_of_nu
 use Rattle.sidetable.specs.declared.flat_module.FlatModule.{FlatModule}
 use Rattle.sidetable.specs.declared.flat_module.PackedFunction.{PackedFunction}
 use Rattle.sidetable.specs.declared.flattening.Flattening.{Flattening}
-use Rattle.sidetable.specs.declared.operand_heights.Heights.{Heights}
 use Rattle.sidetable.specs.declared.labels.Level.{Level}
 use Rattle.sidetable.specs.declared.operations.Entry.{Entry}
 use Rattle.sidetable.specs.declared.operations.PackedOp.{PackedOp}
@@ -82,14 +79,18 @@ module _ (outermost : ℕ) where
 
 -- ---- results
 
--- A function is open, which began when the side tables were those before, and these operations are left of it.
-pub record IsOpen (before : SideTables) (outermost : ℕ) (f : Flattening) (ops : List Op)
-    : Type 0 where
+-- A function began when the side tables were those before: its labels and its copies of labels are behind theirs.
+pub record IsBegun (before : SideTables) (outermost : ℕ) (f : Flattening) : Type 0 where
   pub grows : Grows before f.tables
   pub copies : AreCopies (length before.entries.items) f.tables.entries.items
       (ranges_since before f.tables)
   pub outer : IsLabelSince before f.tables outermost
   pub levels : All (IsOpenLevel before f.tables) f.levels
+
+-- A function began when the side tables were those before, and these operations are left of it.
+pub record IsOpen (before : SideTables) (outermost : ℕ) (f : Flattening) (ops : List Op)
+    : Type 0 where
+  pub begun : IsBegun before outermost f
   pub shape : Closes ops (map allows_else f.levels)
 
 -- If these operations are left, the side tables can end as these.
@@ -114,8 +115,8 @@ pub record Makes (s : Signatures) (final : SideTables) (outermost : ℕ) (f : Fl
 pub record PassesTo (s : Signatures) (outermost : ℕ) (old : Flattening) (all ops : List Op)
     (new : Flattening)
     : Type 0 where
-  pub opens : (before : SideTables) → IsOpen before outermost old all
-      → IsOpen before outermost new ops
+  pub begun : (before : SideTables) → IsBegun before outermost old → IsBegun before outermost new
+  pub shape : Closes all (map allows_else old.levels) → Closes ops (map allows_else new.levels)
   pub ends : (before final : SideTables) → IsOpen before outermost old all
       → EndsAs before outermost new ops final → EndsAs before outermost old all final
   pub makes : (before final : SideTables) (whole : List FlatOp) (most : ℕ)
@@ -127,33 +128,9 @@ pub record PassesTo (s : Signatures) (outermost : ℕ) (old : Flattening) (all o
 abbrev pub Passes : Signatures → (outermost : ℕ) → Flattening → Op → Flattening → Type 0
 Passes s outermost old op new = (ops : List Op) → PassesTo s outermost old (op ∷ ops) ops new
 
--- A function is open, of which these operations are left.
-abbrev pub CanPassAll : (outermost : ℕ) → Flattening → List Op → Type 0
-CanPassAll outermost f ops = (before : SideTables) × IsOpen before outermost f ops
-
--- This operation is the first one that is left.
-abbrev pub CanPass : (outermost : ℕ) → Flattening → Op → Type 0
-CanPass outermost f op = (ops : List Op) × CanPassAll outermost f (op ∷ ops)
-
--- With heights that are stored separately.
-abbrev pub with_heights : Flattening → Heights → Flattening
-with_heights f h = record {
-  tables = f.tables;
-  operations = f.operations;
-  levels = f.levels;
-  height = h.here;
-  greatest = h.greatest;
-}
-
--- No instruction without a body is at this place.
-abbrev pub IsMarkAt : ℕ → List Op → Type 0
-IsMarkAt place ops = (plain : PlainOp) → slice_get ops place ≢ Some (Plain plain)
-
--- The operation is passed, or it is a mark, and nothing changes.
-abbrev pub PassesUnlessMark : Signatures → ℕ → Flattening → Op → Flattening → Bool → Type 0
-PassesUnlessMark s outermost old op new true = Passes s outermost old op new
-PassesUnlessMark s outermost old op new false =
-    (new ≡ old) × ((plain : PlainOp) → op ≢ Plain plain)
+-- A function began before.
+abbrev pub HasBegun : (outermost : ℕ) → Flattening → Type 0
+HasBegun outermost f = (before : SideTables) × IsBegun before outermost f
 
 -- An operation is appended, at this height.
 pub record Pushes (old : Flattening) (p : PackedOp) (after : Option ℕ) (new : Flattening)
@@ -165,6 +142,16 @@ pub record Pushes (old : Flattening) (p : PackedOp) (after : Option ℕ) (new : 
   pub levels : new.levels ≡ old.levels
 
 -- ---- functions
+
+-- A function begins: the entry of its label was pushed, and no body is open.
+pub record Starts (before : SideTables) (outermost : ℕ) (f : Flattening) (locals results : ℕ)
+    : Type 0 where
+  pub tables : ChangesEntries before f.tables
+      (before.entries.items ++ entry_of 0 results locals ∷ [])
+  pub outer : outermost ≡ length before.entries.items
+  pub levels : f.levels ≡ []
+  pub height : f.height ≡ Some locals
+  pub greatest : f.greatest ≡ locals + results
 
 -- The operations of a body were appended, and this is the greatest height in its function's frame.
 pub record IsMade (s : Signatures) (before : List PackedOp) (tables : SideTables)

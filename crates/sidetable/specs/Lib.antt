@@ -3,6 +3,7 @@ pub mod Counts
 pub mod Flat
 pub mod FlatModules
 pub mod Flattening
+pub mod Functions
 pub mod Heights
 pub mod Labels
 pub mod Packing

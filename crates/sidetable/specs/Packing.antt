@@ -9,8 +9,6 @@ use Rattle.core_types.specs.declared.op.LoadOp.TheVariants as from
 use Rattle.core_types.specs.declared.op.MemoryOp.TheVariants as memory
 use Rattle.core_types.specs.declared.op.NumericOp.{NumericOp}
 use Rattle.core_types.specs.declared.op.NumericOp.TheVariants.{Eqz, Compare, Unary, Binary, Convert}
-use Rattle.core_types.specs.declared.op.Op.{Op}
-use Rattle.core_types.specs.declared.op.Op.TheVariants as op
 use Rattle.core_types.specs.declared.op.ParametricOp.TheVariants as parametric
 use Rattle.core_types.specs.declared.op.PlainOp.{PlainOp}
 use Rattle.core_types.specs.declared.op.PlainOp.TheVariants as plain
@@ -244,10 +242,11 @@ pub record Packs (t : SideTables) (p : PackedOp) (o : FlatOp) : Type 0 where
 abbrev pub PacksAlone : PackedOp → PlainOp → Type 0
 PacksAlone p op = (t : SideTables) → Packs t p (Plain op)
 
--- This is an instruction without a body, and the packed operation represents it within these labels.
-abbrev pub PacksPlain : SideTables → PackedOp → Entry → List Entry → Op → Type 0
-PacksPlain t p outermost entries (op.Plain o) = Packs t p (flat_op outermost entries o)
-PacksPlain t p outermost entries o = ⊥
+-- The same within any labels.
+abbrev pub PacksAnywhere : PackedOp → PlainOp → Type 0
+PacksAnywhere p op =
+    (t : SideTables) (outermost : Entry) (entries : List Entry)
+    → Packs t p (flat_op outermost entries op)
 
 -- The operations that packed operations represent.
 abbrev pub made : SideTables → List PackedOp → List FlatOp

@@ -1,27 +1,30 @@
 //! Flattens the body of a function: the operations that its marks leave, and its other operations, in order.
 
-mod rows;
-
-ghost use Rattle.std.specs.Prelude.{◌≡◌, ◌<◌, ◌+◌, ◌++◌, ◌∷◌, [], drop, length, IfOk, OnOk};
-ghost use Rattle.std.specs.List.{All};
+ghost use Rattle.std.specs.Prelude.{◌≡◌, ◌<◌, ◌++◌, ◌∷◌, [], length, max, IfOk, OnOk};
 ghost use Rattle.core_types.specs.Expressions.{mark_op};
-ghost use Rattle.core_types.specs.declared.op.Op.TheVariants.{Block, Else, End, If, Loop};
-ghost use Rattle.meaning.specs.structure.Bodies.{Body, writing};
+ghost use Rattle.core_types.specs.declared.op.Op.TheVariants.{Block, Else, End, If, Loop, Plain};
+ghost use Rattle.core_types.specs.declared.op.PlainOp.TheVariants as plain;
+ghost use Rattle.core_types.specs.declared.op.VariableOp.TheVariants.{LocalGet};
 ghost use Rattle.sidetable.specs.Completion.{ChangesEntries, with_targets};
-ghost use Rattle.sidetable.specs.Flattening.{CanPass, CanPassAll, IsMade, IsMarkAt, Passes, PassesTo, Pushes};
+ghost use Rattle.sidetable.specs.Counts.{behind, height_or_zero};
+ghost use Rattle.sidetable.specs.Flattening.{EndsAs, HasBegun, IsBegun, IsOpen, Passes, Pushes, Starts};
 ghost use Rattle.sidetable.specs.Labels.{IfSecond, second_targets, targets_of};
-ghost use Rattle.sidetable.specs.Packing.{IsWithin};
+ghost use Rattle.sidetable.specs.SideTables.{SideTables as SideTablesBefore};
 ghost use Rattle.sidetable.specs.Signatures.{signatures_of};
 
 use crate::copies::copy_all_labels;
 use crate::counts::{ModuleTypes, counts_of_block};
-use crate::flattening::rows::pass_row;
+use crate::instructions::{
+    PackedInstruction, pack, pack_control, pack_i32_const, pack_local_get, pack_memory,
+    pack_numeric, pack_parametric, pack_variable,
+};
 use crate::labels::{Level, Pending};
-use crate::operand_heights::{base, changed, known, less_one};
+use crate::operand_heights::{base, changed, known, less_one, pass_height};
 use crate::operations::{Entry, PackedOp, TransferInstruction};
 use crate::side_tables::{SideTables, number};
-use core_types::{BlockType, Expression, Mark, Stack, append, mark_of};
-use meaning::writing_is_read;
+use core_types::{
+    BlockType, ControlOp, Mark, MemoryOp, NumericOp, Op, ParametricOp, Stack, VariableOp, append,
+};
 use std::alloc::{AllocError, Global};
 
 /// What was made of the operations so far: the side tables and the operations, with those of earlier functions; the open bodies, the
@@ -84,7 +87,6 @@ fn step_block(
     f: &mut Flattening,
     ty: BlockType,
 ) -> Result<(), AllocError>
-    requires { CanPass outermost f.old (Block ty) }
     ensures { OnOk result (Passes (signatures_of s.now) outermost f.old (Block ty) f.new) }
 {
     let c = counts_of_block(s, ty);
@@ -108,7 +110,6 @@ fn step_loop(
     f: &mut Flattening,
     ty: BlockType,
 ) -> Result<(), AllocError>
-    requires { CanPass outermost f.old (Loop ty) }
     ensures { OnOk result (Passes (signatures_of s.now) outermost f.old (Loop ty) f.new) }
 {
     let c = counts_of_block(s, ty);
@@ -136,7 +137,6 @@ fn step_if(
     f: &mut Flattening,
     ty: BlockType,
 ) -> Result<(), AllocError>
-    requires { CanPass outermost f.old (If ty) }
     ensures { OnOk result (Passes (signatures_of s.now) outermost f.old (If ty) f.new) }
 {
     let c = counts_of_block(s, ty);
@@ -167,13 +167,13 @@ fn complete_second(tables: &mut SideTables, level: Level, place: u32)
     }
 }
 
-// An else: the first body goes on behind the `if`, with its results.
+// An else: the first body goes on behind the `if`, with its results. There is none where no body is open.
 fn step_else(s: &ModuleTypes<'_>, outermost: u32, f: &mut Flattening) -> Result<(), AllocError>
-    requires { CanPass outermost f.old Else }
+    requires { HasBegun outermost f.old }
     ensures { OnOk result (Passes (signatures_of s.now) outermost f.old Else f.new) }
 {
     let Some(level) = f.levels.pop() else {
-        unreachable!()
+        return Ok(());
     };
     let jump = PackedOp::Transfer(TransferInstruction::Jump, level.label);
     push_operation(f, jump, level.inside)?;
@@ -201,13 +201,13 @@ fn complete_level(tables: &mut SideTables, level: Level, end: u32)
     }
 }
 
-// An end, which leaves no operation.
+// An end, which leaves no operation. There is none where no body is open.
 fn step_end(s: &ModuleTypes<'_>, outermost: u32, f: &mut Flattening) -> Result<(), AllocError>
-    requires { CanPass outermost f.old End }
+    requires { HasBegun outermost f.old }
     ensures { OnOk result (Passes (signatures_of s.now) outermost f.old End f.new) }
 {
     let Some(level) = f.levels.pop() else {
-        unreachable!()
+        return Ok(());
     };
     complete_level(&mut f.tables, level, number(f.operations.len())?);
     f.greatest = f.greatest.max(known(f.height));
@@ -215,92 +215,177 @@ fn step_end(s: &ModuleTypes<'_>, outermost: u32, f: &mut Flattening) -> Result<(
     Ok(())
 }
 
-#[inline(always)]
-fn step_mark(
+/// Passes a mark, at which a body begins or ends.
+#[inline(never)]
+pub fn pass_mark(
     s: &ModuleTypes<'_>,
     outermost: u32,
     f: &mut Flattening,
     mark: Mark,
 ) -> Result<(), AllocError>
-    requires { CanPass outermost f.old (mark_op mark) }
+    requires { HasBegun outermost f.old }
     ensures { OnOk result (Passes (signatures_of s.now) outermost f.old (mark_op mark) f.new) }
 {
     match mark {
-        Mark::Block(ty) => step_block(s, outermost, f, ty)?,
-        Mark::Loop(ty) => step_loop(s, outermost, f, ty)?,
-        Mark::If(ty) => step_if(s, outermost, f, ty)?,
-        Mark::Else => step_else(s, outermost, f)?,
-        Mark::End => step_end(s, outermost, f)?,
+        Mark::Block(ty) => step_block(s, outermost, f, ty),
+        Mark::Loop(ty) => step_loop(s, outermost, f, ty),
+        Mark::If(ty) => step_if(s, outermost, f, ty),
+        Mark::Else => step_else(s, outermost, f),
+        Mark::End => step_end(s, outermost, f),
     }
-    Ok(())
 }
 
-// ---- all operations
+// ---- instructions without a body
 
-#[inline(never)]
-fn pass_mark(
+// Appends a packed instruction, after which the heights change by its counts.
+#[inline(always)]
+fn push_packed(f: &mut Flattening, packed: PackedInstruction) -> Result<(), AllocError>
+    ensures { OnOk result (Pushes f.old packed.op (behind packed.counts f.old.height) f.new) }
+{
+    pass_height(packed.counts, &mut f.height, &mut f.greatest)?;
+    append(&mut f.operations, packed.op)
+}
+
+/// Passes a `local.get`.
+#[inline(always)]
+pub fn pass_local_get(
     s: &ModuleTypes<'_>,
     outermost: u32,
     f: &mut Flattening,
-    code: &Expression,
-    position: usize,
+    index: u32,
 ) -> Result<(), AllocError>
-    requires within { position < length code.now }
-    requires mark { IsMarkAt position code.now }
-    requires can { CanPassAll outermost f.old (drop position code.now) }
-    ensures { OnOk result (PassesTo (signatures_of s.now) outermost f.old
-        (drop position code.now) (drop (position + 1) code.now) f.new) }
+    ensures { OnOk result (Passes (signatures_of s.now) outermost f.old (Plain (plain.Variable (LocalGet index))) f.new) }
 {
-    let Some(mark) = mark_of(code.get(position)) else {
-        unreachable!()
-    };
-    step_mark(s, outermost, f, mark)
+    push_packed(f, pack_local_get(index))
 }
 
-// Flattens all operations.
-#[inline(never)]
-fn run(
+/// Passes an instruction on a local or a global.
+#[inline(always)]
+pub fn pass_variable(
     s: &ModuleTypes<'_>,
     outermost: u32,
     f: &mut Flattening,
-    code: &Expression,
+    op: VariableOp,
 ) -> Result<(), AllocError>
-    requires can { CanPassAll outermost f.old code.now }
-    ensures { OnOk result (PassesTo (signatures_of s.now) outermost f.old code.now ([]) f.new) }
+    ensures { OnOk result (Passes (signatures_of s.now) outermost f.old (Plain (plain.Variable op)) f.new) }
 {
-    let mut position = 0;
-    while position < code.len() {
-        position = pass_row(s, outermost, f, code, position)?;
-        if position < code.len() {
-            pass_mark(s, outermost, f, code, position)?;
-            position += 1;
+    push_packed(f, pack_variable(op))
+}
+
+/// Passes an instruction on operands of any type.
+#[inline(always)]
+pub fn pass_parametric(
+    s: &ModuleTypes<'_>,
+    outermost: u32,
+    f: &mut Flattening,
+    op: ParametricOp,
+) -> Result<(), AllocError>
+    ensures { OnOk result (Passes (signatures_of s.now) outermost f.old (Plain (plain.Parametric op)) f.new) }
+{
+    push_packed(f, pack_parametric(op))
+}
+
+/// Passes an instruction on the memory or a data segment.
+#[inline(always)]
+pub fn pass_memory(
+    s: &ModuleTypes<'_>,
+    outermost: u32,
+    f: &mut Flattening,
+    op: MemoryOp,
+) -> Result<(), AllocError>
+    ensures { OnOk result (Passes (signatures_of s.now) outermost f.old (Plain (plain.Memory op)) f.new) }
+{
+    push_packed(f, pack_memory(op))
+}
+
+/// Passes a numeric instruction.
+#[inline(always)]
+pub fn pass_numeric(
+    s: &ModuleTypes<'_>,
+    outermost: u32,
+    f: &mut Flattening,
+    op: NumericOp,
+) -> Result<(), AllocError>
+    ensures { OnOk result (Passes (signatures_of s.now) outermost f.old (Plain (plain.Numeric op)) f.new) }
+{
+    push_packed(f, pack_numeric(op))
+}
+
+/// Passes a 32-bit constant.
+#[inline(always)]
+pub fn pass_i32_const(
+    s: &ModuleTypes<'_>,
+    outermost: u32,
+    f: &mut Flattening,
+    value: u32,
+) -> Result<(), AllocError>
+    ensures { OnOk result (Passes (signatures_of s.now) outermost f.old (Plain (plain.I32Const value)) f.new) }
+{
+    push_packed(f, pack_i32_const(value))
+}
+
+/// Passes a control instruction that has neither a body nor a list.
+#[inline(always)]
+pub fn pass_control(
+    s: &ModuleTypes<'_>,
+    outermost: u32,
+    f: &mut Flattening,
+    op: ControlOp,
+) -> Result<(), AllocError>
+    requires { HasBegun outermost f.old }
+    ensures { OnOk result (Passes (signatures_of s.now) outermost f.old (Plain (plain.Control op)) f.new) }
+{
+    let packed = pack_control(s, &mut f.tables, outermost, &f.levels, op)?;
+    push_packed(f, packed)
+}
+
+/// Passes any operation.
+#[inline(never)]
+pub fn pass_any(
+    s: &ModuleTypes<'_>,
+    outermost: u32,
+    f: &mut Flattening,
+    op: &Op,
+) -> Result<(), AllocError>
+    requires { HasBegun outermost f.old }
+    ensures { OnOk result (Passes (signatures_of s.now) outermost f.old op.now f.new) }
+{
+    match op {
+        Op::Block(ty) => step_block(s, outermost, f, *ty),
+        Op::Loop(ty) => step_loop(s, outermost, f, *ty),
+        Op::If(ty) => step_if(s, outermost, f, *ty),
+        Op::Else => step_else(s, outermost, f),
+        Op::End => step_end(s, outermost, f),
+        Op::Plain(op) => {
+            let packed = pack(s, &mut f.tables, outermost, &f.levels, op)?;
+            push_packed(f, packed)
         }
     }
-    Ok(())
 }
 
-/// Flattens a body and appends its operations. Returns the greatest height in the frame of its function, which has this many locals,
-/// parameters included, and results.
-pub fn flatten_body(
-    s: &ModuleTypes<'_>,
-    f: &mut Flattening,
-    locals: u32,
-    results: u32,
-    code: &Expression,
-) -> Result<u64, AllocError>
-    requires written { (body : Body) × (code.now ≡ writing body) }
-    requires within { All (IsWithin f.old.tables) f.old.operations.items }
-    ensures { IfOk result (λ greatest. (body : Body) → code.now ≡ writing body
-        → IsMade (signatures_of s.now) f.old.operations.items f.old.tables locals results body
-        f.new greatest) }
+/// Begins the body of a function that has this many locals, parameters included, and results. Returns the number of the entry of its
+/// label.
+pub fn begin_body(f: &mut Flattening, locals: u32, results: u32) -> Result<u32, AllocError>
+    ensures starts { IfOk result (λ outermost. Starts f.old.tables outermost f.new locals results) }
+    ensures operations { f.new.operations ≡ f.old.operations }
 {
-    writing_is_read();
     f.levels.clear();
-    let first_range = f.tables.branch_ranges.len();
     let outermost = push_pending(&mut f.tables, results, locals as u64)?;
     f.height = Some(locals as u64);
     f.greatest = locals as u64 + results as u64;
-    run(s, outermost, f, code)?;
+    Ok(outermost)
+}
+
+/// Ends the body of a function, with the branches by number from an index on. Returns the greatest height in its frame.
+pub fn end_body(f: &mut Flattening, outermost: u32, first_range: usize) -> Result<u64, AllocError>
+    requires { (before : SideTablesBefore) × (length before.branch_ranges.items ≡ first_range)
+        × IsBegun before outermost f.old }
+    ensures ends { OnOk result ((before : SideTablesBefore)
+        → length before.branch_ranges.items ≡ first_range → IsOpen before outermost f.old ([])
+        → EndsAs before outermost f.old ([]) f.new.tables) }
+    ensures greatest { IfOk result (λ n. n ≡ max f.old.greatest (height_or_zero f.old.height)) }
+    ensures operations { f.new.operations ≡ f.old.operations }
+{
     f.tables.set_target(outermost, number(f.operations.len())?);
     copy_all_labels(&mut f.tables, first_range);
     Ok(f.greatest.max(known(f.height)))

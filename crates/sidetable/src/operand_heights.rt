@@ -1,4 +1,4 @@
-ghost use Rattle.std.specs.Prelude.{◌≡◌, ◌-◌, IfOk, max};
+ghost use Rattle.std.specs.Prelude.{◌≡◌, ◌-◌, IfOk, OnOk, max};
 ghost use Rattle.sidetable.specs.Counts.{behind as behind_counts, changed as changed_height, height_or_zero as known_or_zero, less as less_by};
 
 use crate::counts::Counts;
@@ -27,29 +27,34 @@ pub fn changed(c: Counts, height: Option<u64>) -> Result<Option<u64>, AllocError
     }
 }
 
-/// The height, and the greatest so far.
-#[derive(Clone, Copy)]
-pub struct Heights {
-    pub here: Option<u64>,
-    pub greatest: u64,
+// Raises the greatest height to a height, if that is greater. Mostly it is not, and nothing is written.
+#[inline(always)]
+fn raise(greatest: &mut u64, height: u64)
+    ensures { greatest.new ≡ max greatest.old height }
+{
+    if *greatest < height {
+        *greatest = height;
+    }
 }
 
-/// Returns the heights after an instruction.
+/// Changes the height as an instruction does, after the greatest so far was raised to it.
 #[inline(always)]
-pub fn heights_behind(c: Option<Counts>, before: Heights) -> Result<Heights, AllocError>
-    ensures here { IfOk result (λ h. h.here ≡ behind_counts c before.here) }
-    ensures greatest { IfOk result
-        (λ h. h.greatest ≡ max before.greatest (known_or_zero before.here)) }
+pub fn pass_height(
+    c: Option<Counts>,
+    here: &mut Option<u64>,
+    greatest: &mut u64,
+) -> Result<(), AllocError>
+    ensures here { OnOk result (here.new ≡ behind_counts c here.old) }
+    ensures greatest { OnOk result (greatest.new ≡ max greatest.old (known_or_zero here.old)) }
 {
-    let Some(height) = before.here else {
-        return Ok(before);
-    };
-    let greatest = before.greatest.max(height);
-    let here = match c {
-        Some(c) => changed(c, before.here)?,
-        None => None,
-    };
-    Ok(Heights { here, greatest })
+    if let Some(height) = *here {
+        raise(greatest, height);
+        *here = match c {
+            Some(c) => changed(c, Some(height))?,
+            None => None,
+        };
+    }
+    Ok(())
 }
 
 /// Returns the height, or 0 if the place is never reached.

@@ -20,6 +20,7 @@ use core_types::{
 use std::alloc::AllocError;
 
 // Returns an operator on two 32-bit integers.
+#[inline(always)]
 fn i32_binary(op: BinaryOp) -> PackedOp
     ensures { PacksAlone result (plain.Numeric (Binary W32 op)) }
 {
@@ -43,6 +44,7 @@ fn i32_binary(op: BinaryOp) -> PackedOp
 }
 
 // Returns an operator on two 64-bit integers.
+#[inline(always)]
 fn i64_binary(op: BinaryOp) -> PackedOp
     ensures { PacksAlone result (plain.Numeric (Binary W64 op)) }
 {
@@ -66,6 +68,7 @@ fn i64_binary(op: BinaryOp) -> PackedOp
 }
 
 // Returns a comparison of two 32-bit integers.
+#[inline(always)]
 fn i32_comparison(op: Comparison) -> PackedOp
     ensures { PacksAlone result (plain.Numeric (Compare W32 op)) }
 {
@@ -84,6 +87,7 @@ fn i32_comparison(op: Comparison) -> PackedOp
 }
 
 // Returns a comparison of two 64-bit integers.
+#[inline(always)]
 fn i64_comparison(op: Comparison) -> PackedOp
     ensures { PacksAlone result (plain.Numeric (Compare W64 op)) }
 {
@@ -102,6 +106,7 @@ fn i64_comparison(op: Comparison) -> PackedOp
 }
 
 // Returns an operator on a 32-bit integer.
+#[inline(always)]
 fn i32_unary(op: UnaryOp) -> UnaryInstruction
     ensures { unary_op result ≡ (Unary W32 op) }
 {
@@ -115,6 +120,7 @@ fn i32_unary(op: UnaryOp) -> UnaryInstruction
 }
 
 // Returns an operator on a 64-bit integer.
+#[inline(always)]
 fn i64_unary(op: UnaryOp) -> UnaryInstruction
     ensures { unary_op result ≡ (Unary W64 op) }
 {
@@ -128,6 +134,7 @@ fn i64_unary(op: UnaryOp) -> UnaryInstruction
 }
 
 // Returns an operator on an integer that exists for one width only.
+#[inline(always)]
 fn conversion(op: Conversion) -> UnaryInstruction
     ensures { unary_op result ≡ (Convert op) }
 {
@@ -140,6 +147,7 @@ fn conversion(op: Conversion) -> UnaryInstruction
 }
 
 // Returns a test on an integer.
+#[inline(always)]
 fn eqz(width: Width) -> UnaryInstruction
     ensures { unary_op result ≡ (Eqz width) }
 {
@@ -149,6 +157,7 @@ fn eqz(width: Width) -> UnaryInstruction
     }
 }
 
+#[inline(always)]
 fn compare(width: Width, op: Comparison) -> PackedOp
     ensures { PacksAlone result (plain.Numeric (Compare width op)) }
 {
@@ -159,6 +168,7 @@ fn compare(width: Width, op: Comparison) -> PackedOp
 }
 
 // Returns an operator on one integer.
+#[inline(always)]
 fn unary(width: Width, op: UnaryOp) -> UnaryInstruction
     ensures { unary_op result ≡ (Unary width op) }
 {
@@ -169,6 +179,7 @@ fn unary(width: Width, op: UnaryOp) -> UnaryInstruction
 }
 
 // Returns an operator on two integers.
+#[inline(always)]
 fn binary(width: Width, op: BinaryOp) -> PackedOp
     ensures { PacksAlone result (plain.Numeric (Binary width op)) }
 {
@@ -179,6 +190,7 @@ fn binary(width: Width, op: BinaryOp) -> PackedOp
 }
 
 // Returns an instruction on one integer.
+#[inline(always)]
 fn on_one(instruction: UnaryInstruction) -> PackedOp
     ensures { PacksAlone result (plain.Numeric (unary_op instruction)) }
 {
@@ -186,6 +198,7 @@ fn on_one(instruction: UnaryInstruction) -> PackedOp
 }
 
 /// Packs a numeric instruction.
+#[inline(always)]
 pub fn numeric(op: NumericOp) -> PackedOp
     ensures { PacksAlone result (plain.Numeric op) }
 {
@@ -199,6 +212,7 @@ pub fn numeric(op: NumericOp) -> PackedOp
 }
 
 // Returns a load from an offset.
+#[inline(always)]
 pub fn load(op: LoadOp, offset: u32) -> PackedOp
     ensures { PacksAlone result (plain.Memory (Load op (at_offset offset))) }
 {
@@ -243,6 +257,7 @@ pub fn load(op: LoadOp, offset: u32) -> PackedOp
 }
 
 // Returns a store at an offset.
+#[inline(always)]
 pub fn store(op: StoreOp, offset: u32) -> PackedOp
     ensures { PacksAlone result (plain.Memory (Store op (at_offset offset))) }
 {
@@ -258,6 +273,7 @@ pub fn store(op: StoreOp, offset: u32) -> PackedOp
 }
 
 /// Packs an instruction on the memory or a data segment, without its alignment.
+#[inline(always)]
 pub fn memory(op: MemoryOp) -> PackedOp
     ensures { PacksAlone result (plain.Memory (without_alignment op)) }
 {
@@ -299,6 +315,7 @@ pub fn parametric(op: ParametricOp) -> PackedOp
 }
 
 /// Packs an instruction on a local or a global.
+#[inline(always)]
 pub fn variable(op: VariableOp) -> PackedOp
     ensures { PacksAlone result (plain.Variable op) }
 {

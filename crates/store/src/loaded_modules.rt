@@ -1,4 +1,4 @@
-ghost use Rattle.std.specs.Prelude.{◌<◌, ◌≤◌, ◌≡◌, bytes_eq, length, option_map, slice_get, IfOk, Some};
+ghost use Rattle.std.specs.Prelude.{◌<◌, ◌≤◌, ◌≡◌, ◌⊎◌, bytes_eq, length, option_map, slice_get, IfErr, IfOk, Some};
 ghost use Rattle.meaning.specs.structure.Bodies.{writing};
 ghost use Rattle.meaning.specs.execution.Modules.{code_of};
 ghost use Rattle.meaning.specs.validation.Modules.{IsValid};
@@ -9,13 +9,14 @@ ghost use Rattle.core_types.specs.declared.types.TableType.{TableType as AnyTabl
 ghost use Rattle.meaning.specs.execution.Tables.{most_entries};
 ghost use Rattle.soundness.specs.Links.{IsSoundModule};
 ghost use Rattle.meaning.specs.execution.Storage.{AreBytes};
+ghost use Rattle.validator.specs.declared.errors.ValidateError.TheVariants.{OutOfMemory};
 ghost use Rattle.sidetable.specs.FlatModules.{IsFlat, IsFlatModule, module_signatures, operations_of};
 
 use core_types::{DataSegment, ExportDesc, Func, FuncType, Limits, Module, TableType};
 use sidetable::{FlatModule, PackedFunction, flatten};
-use std::alloc::{AllocError, Global};
+use std::alloc::Global;
 use std::marker::Model;
-use validator::ValidModule;
+use validator::{ValidModule, ValidateError};
 
 /// A loaded module, which all its instances share: the module, and the flat code of its functions.
 #[derive(Drop)]
@@ -34,6 +35,7 @@ pub struct LoadedFunction<'a> {
 
 impl Model for LoadedModule {
     ghost use Rattle.soundness.specs.Links.{IsSoundModule};
+    ghost use Rattle.validator.specs.declared.errors.ValidateError.TheVariants.{OutOfMemory};
     ghost use Rattle.sidetable.specs.FlatModules.{IsFlatModule};
     ghost use Rattle.store.specs.Loaded.{LoadedContents};
 
@@ -74,23 +76,27 @@ fn show_tables(tables: &[TableType])
     }
 }
 
-// Returns the flat code of a module, whose numbers fit their types.
-fn flatten_valid(alloc: Global, validated: &ValidModule) -> Result<FlatModule, AllocError>
-    ensures flat { IfOk result (IsFlatModule validated.now) }
-    ensures sound { IsSoundModule validated.now }
+// So do the numbers of a valid module.
+fn show_sound(validated: &ValidModule)
+    ensures { IsSoundModule validated.now }
 {
     let wanted = validated.module();
     show_tables(wanted.tables.as_slice());
     show_datas(wanted.datas.as_slice());
-    flatten(alloc, validated)
 }
 
 impl LoadedModule {
-    /// Loads a valid module and flattens its functions. Fails if an allocation fails for their flat code.
-    pub fn new(alloc: Global, validated: ValidModule) -> Result<LoadedModule, AllocError>
-        ensures { IfOk result (λ loaded. loaded.source ≡ validated) }
+    /// Loads a module: validates it, and flattens its functions.
+    ///
+    /// # Errors
+    ///
+    /// Fails as `validate` does, with `Invalid` and a place, or with `OutOfMemory`, also for the flat code. Both drop the module.
+    pub fn new(alloc: Global, decoded: Module) -> Result<LoadedModule, ValidateError>
+        ensures kept { IfOk result (λ loaded. loaded.source ≡ decoded) }
+        ensures invalid { IfErr result (λ error. (error ≡ OutOfMemory) ⊎ (¬ IsValid decoded)) }
     {
-        let flat = flatten_valid(alloc, &validated)?;
+        let (validated, flat) = flatten(alloc, decoded)?;
+        show_sound(&validated);
         Ok(LoadedModule { validated, flat })
     }
 

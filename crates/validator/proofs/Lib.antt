@@ -9,5 +9,6 @@ pub mod Pops
 pub mod References
 pub mod Steps
 pub mod TailCalls
+pub mod Visiting
 pub mod completeness
 pub mod soundness

@@ -11,3 +11,4 @@ pub mod Operands
 pub mod References
 pub mod Soundness
 pub mod Steps
+pub mod Visiting

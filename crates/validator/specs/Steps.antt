@@ -72,6 +72,14 @@ Steps lent old new o result =
     OnOk result (StepsTo lent old new o)
     × IfErr result (OnInvalid (CannotBeNext lent old o))
 
+-- The result of a step over the first of these operations, after which the others are left.
+abbrev pub StepsOverNext : BodyContext → Stacks → Stacks → (ops others : List Op)
+    → Result (Unit {0}) Fault → Type 0
+StepsOverNext lent old new ops others result =
+    OnOk result ((o : Op) × (ops ≡ o ∷ others) × StepsTo lent old new o)
+    × IfErr result (OnInvalid ((o : Op) × (rest : List Op) × (ops ≡ o ∷ rest)
+    × CannotBeNext lent old o))
+
 -- The same in any context.
 abbrev pub StepsAnywhere : Stacks → Stacks → Op → Result (Unit {0}) Fault → Type 0
 StepsAnywhere old new o result = (lent : BodyContext) → Steps lent old new o result

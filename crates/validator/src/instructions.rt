@@ -6,10 +6,8 @@ pub mod reference;
 pub mod table;
 pub mod variable;
 
-ghost use Rattle.std.specs.Prelude.{◌≡◌, ◌≢◌, ◌<◌, [], ◌++◌, ◌∷◌, length, slice_get, Some};
-ghost use Rattle.core_types.specs.declared.op.Op.{Op as Operation};
-ghost use Rattle.core_types.specs.declared.op.Op.TheVariants as flat;
-ghost use Rattle.core_types.specs.declared.op.PlainOp.{PlainOp as Plain};
+ghost use Rattle.std.specs.Prelude.{[], ◌++◌, ◌∷◌};
+ghost use Rattle.core_types.specs.Expressions.{mark_op};
 ghost use Rattle.core_types.specs.declared.types.ValType.TheVariants.{I32};
 ghost use Rattle.meaning.specs.validation.Instructions.{known};
 ghost use Rattle.meaning.specs.validation.Types.{function_type as type_of};
@@ -23,7 +21,7 @@ use crate::errors::Fault;
 use crate::instructions::control::blocks::{step_begin, step_else, step_end};
 use crate::instructions::control::branches::step_br_table;
 use crate::instructions::control::step_control;
-use crate::instructions::memory::{step_load, step_memory, step_store};
+use crate::instructions::memory::step_memory;
 use crate::instructions::numeric::{step_i32_const, step_i64_const, step_numeric};
 use crate::instructions::parametric::{step_parametric, step_typed_select};
 use crate::instructions::reference::step_reference;
@@ -31,10 +29,7 @@ use crate::instructions::table::step_table;
 use crate::instructions::variable::step_variable;
 use crate::operands::{pop_fitting, pop_one, pop_two, pop_types, replace_one, replace_two};
 use crate::types::InstructionType;
-use core_types::{
-    ControlOp, Expression, LoadOp, Mark, MemoryOp, Op, OpWith, OperandType, PlainOp, ReferenceOp,
-    StoreOp, ValType, VariableOp, mark_of,
-};
+use core_types::{Mark, Op, OperandType, PlainOp, ValType};
 use std::alloc::Global;
 
 // Pops an i32, and then operands that fit the types under it.
@@ -86,6 +81,28 @@ pub fn apply_nullary(stacks: &mut Stacks<'_>, gives: ValType) -> Result<(), Faul
     Ok(())
 }
 
+// Steps over an instruction that takes an operand of a type and gives nothing.
+#[inline(always)]
+pub fn apply_taking_one(stacks: &mut Stacks<'_>, takes: ValType) -> Result<(), Fault>
+    ensures { StepsByType stacks.old stacks.new (type_of (takes ∷ []) []) result }
+{
+    if !pop_one(&mut stacks.operands, &stacks.innermost, takes) {
+        return Err(Fault::Invalid);
+    }
+    Ok(())
+}
+
+// Steps over an instruction that takes an operand of a type, under one of another type, and gives nothing.
+#[inline(always)]
+pub fn apply_taking_two(stacks: &mut Stacks<'_>, under: ValType, top: ValType) -> Result<(), Fault>
+    ensures { StepsByType stacks.old stacks.new (type_of (under ∷ top ∷ []) []) result }
+{
+    if !pop_two(&mut stacks.operands, &stacks.innermost, under, top) {
+        return Err(Fault::Invalid);
+    }
+    Ok(())
+}
+
 // Steps over an instruction that takes an operand of a type and gives one.
 #[inline(never)]
 fn apply_to_one(stacks: &mut Stacks<'_>, takes: ValType, gives: ValType) -> Result<(), Fault>
@@ -114,7 +131,7 @@ pub fn apply_unary(stacks: &mut Stacks<'_>, takes: ValType, gives: ValType) -> R
 fn apply_to_two(stacks: &mut Stacks<'_>, takes: ValType, gives: ValType) -> Result<(), Fault>
     ensures { StepsByType stacks.old stacks.new (type_of (takes ∷ takes ∷ []) (gives ∷ [])) result }
 {
-    if !pop_two(&mut stacks.operands, &stacks.innermost, takes) {
+    if !pop_two(&mut stacks.operands, &stacks.innermost, takes, takes) {
         return Err(Fault::Invalid);
     }
     stacks.operands.push(OperandType::Known(gives))?;
@@ -146,9 +163,27 @@ pub fn apply_some<'a>(
     }
 }
 
-// Steps over an operation that takes more than eight bytes, or over any other.
+// Steps over a mark, at which a body begins or ends.
 #[inline(never)]
-fn step_other<'a>(
+pub fn step_mark<'a>(
+    context: &BodyContext<'a>,
+    stacks: &mut Stacks<'a>,
+    mark: Mark,
+) -> Result<(), Fault>
+    ensures { Steps context.now stacks.old stacks.new (mark_op mark) result }
+{
+    match mark {
+        Mark::Block(ty) => step_begin(context, stacks, FrameKind::Block, ty),
+        Mark::Loop(ty) => step_begin(context, stacks, FrameKind::Loop, ty),
+        Mark::If(ty) => step_begin(context, stacks, FrameKind::If, ty),
+        Mark::Else => step_else(stacks),
+        Mark::End => step_end(stacks),
+    }
+}
+
+// Steps over any operation.
+#[inline(never)]
+pub fn step<'a>(
     alloc: Global,
     context: &BodyContext<'a>,
     stacks: &mut Stacks<'a>,
@@ -168,189 +203,10 @@ fn step_other<'a>(
         Op::Plain(PlainOp::Numeric(op)) => step_numeric(stacks, *op),
         Op::Plain(PlainOp::I32Const(value)) => step_i32_const(stacks, *value),
         Op::Plain(PlainOp::I64Const(value)) => step_i64_const(stacks, *value),
-        Op::Block(block) => step_begin(context, stacks, FrameKind::Block, *block),
-        Op::Loop(block) => step_begin(context, stacks, FrameKind::Loop, *block),
-        Op::If(block) => step_begin(context, stacks, FrameKind::If, *block),
+        Op::Block(ty) => step_begin(context, stacks, FrameKind::Block, *ty),
+        Op::Loop(ty) => step_begin(context, stacks, FrameKind::Loop, *ty),
+        Op::If(ty) => step_begin(context, stacks, FrameKind::If, *ty),
         Op::Else => step_else(stacks),
         Op::End => step_end(stacks),
     }
-}
-
-// Steps over a mark, at which a body begins or ends.
-#[inline(never)]
-fn step_mark<'a>(
-    context: &BodyContext<'a>,
-    stacks: &mut Stacks<'a>,
-    ops: &Expression,
-    index: usize,
-) -> Result<(), Fault>
-    requires within { index < length ops.now }
-    requires mark { (plain : Plain) → slice_get ops.now index ≢ Some (flat.Plain plain) }
-    ensures { (op : Operation) → slice_get ops.now index ≡ Some op
-        → Steps context.now stacks.old stacks.new op result }
-{
-    match mark_of(ops.get(index)) {
-        Some(Mark::Block(ty)) => step_begin(context, stacks, FrameKind::Block, ty),
-        Some(Mark::Loop(ty)) => step_begin(context, stacks, FrameKind::Loop, ty),
-        Some(Mark::If(ty)) => step_begin(context, stacks, FrameKind::If, ty),
-        Some(Mark::Else) => step_else(stacks),
-        Some(Mark::End) => step_end(stacks),
-        None => unreachable!(),
-    }
-}
-
-// Steps over the operation at an index, of any kind.
-#[inline(never)]
-fn step_any<'a>(
-    alloc: Global,
-    context: &BodyContext<'a>,
-    stacks: &mut Stacks<'a>,
-    ops: &Expression,
-    index: usize,
-) -> Result<(), Fault>
-    requires { index < length ops.now }
-    ensures { (op : Operation) → slice_get ops.now index ≡ Some op
-        → Steps context.now stacks.old stacks.new op result }
-{
-    match ops.get(index) {
-        OpWith::Unreachable => step_control(context, stacks, ControlOp::Unreachable),
-        OpWith::Nop => step_control(context, stacks, ControlOp::Nop),
-        OpWith::Br(label) => step_control(context, stacks, ControlOp::Br(label)),
-        OpWith::BrIf(label) => step_control(context, stacks, ControlOp::BrIf(label)),
-        OpWith::Return => step_control(context, stacks, ControlOp::Return),
-        OpWith::Call(function) => step_control(context, stacks, ControlOp::Call(function)),
-        OpWith::RefNull(ty) => step_reference(context, stacks, ReferenceOp::Null(ty)),
-        OpWith::RefIsNull => step_reference(context, stacks, ReferenceOp::IsNull),
-        OpWith::RefFunc(function) => step_reference(context, stacks, ReferenceOp::Func(function)),
-        OpWith::Parametric(op) => step_parametric(stacks, op),
-        OpWith::LocalGet(index) => step_variable(context, stacks, VariableOp::LocalGet(index)),
-        OpWith::LocalSet(index) => step_variable(context, stacks, VariableOp::LocalSet(index)),
-        OpWith::LocalTee(index) => step_variable(context, stacks, VariableOp::LocalTee(index)),
-        OpWith::GlobalGet(index) => step_variable(context, stacks, VariableOp::GlobalGet(index)),
-        OpWith::GlobalSet(index) => step_variable(context, stacks, VariableOp::GlobalSet(index)),
-        OpWith::Load(width, align, offset) => step_load(
-            context,
-            stacks,
-            LoadOp::Whole(width),
-            align,
-            offset,
-        ),
-        OpWith::Load8(width, sign, align, offset) => step_load(
-            context,
-            stacks,
-            LoadOp::Bits8(width, sign),
-            align,
-            offset,
-        ),
-        OpWith::Load16(width, sign, align, offset) => step_load(
-            context,
-            stacks,
-            LoadOp::Bits16(width, sign),
-            align,
-            offset,
-        ),
-        OpWith::Load32(sign, align, offset) => step_load(
-            context,
-            stacks,
-            LoadOp::Bits32(sign),
-            align,
-            offset,
-        ),
-        OpWith::Store(width, align, offset) => step_store(
-            context,
-            stacks,
-            StoreOp::Whole(width),
-            align,
-            offset,
-        ),
-        OpWith::Store8(width, align, offset) => step_store(
-            context,
-            stacks,
-            StoreOp::Bits8(width),
-            align,
-            offset,
-        ),
-        OpWith::Store16(width, align, offset) => step_store(
-            context,
-            stacks,
-            StoreOp::Bits16(width),
-            align,
-            offset,
-        ),
-        OpWith::Store32(align, offset) => step_store(
-            context,
-            stacks,
-            StoreOp::Bits32,
-            align,
-            offset,
-        ),
-        OpWith::MemorySize => step_memory(context, stacks, MemoryOp::Size),
-        OpWith::MemoryGrow => step_memory(context, stacks, MemoryOp::Grow),
-        OpWith::MemoryFill => step_memory(context, stacks, MemoryOp::Fill),
-        OpWith::MemoryCopy => step_memory(context, stacks, MemoryOp::Copy),
-        OpWith::Numeric(op) => step_numeric(stacks, op),
-        OpWith::I32Const(value) => step_i32_const(stacks, value),
-        OpWith::I64Const(value) => step_i64_const(stacks, u64::from(value)),
-        OpWith::Block(_) | OpWith::Loop(_) | OpWith::If(_) | OpWith::Else | OpWith::End =>
-            step_mark(context, stacks, ops, index),
-        OpWith::Other(op) => step_other(alloc, context, stacks, op),
-    }
-}
-
-// Steps over the operation at an index. The most frequent operations are handled here, because the loop over a body keeps
-// nothing in memory without the others. Each arm returns its own fault. Otherwise all arms would share a test of their results.
-#[inline(always)]
-pub fn step<'a>(
-    alloc: Global,
-    context: &BodyContext<'a>,
-    stacks: &mut Stacks<'a>,
-    ops: &Expression,
-    index: usize,
-) -> Result<(), Fault>
-    requires { index < length ops.now }
-    ensures { (op : Operation) → slice_get ops.now index ≡ Some op
-        → Steps context.now stacks.old stacks.new op result }
-{
-    match ops.get(index) {
-        OpWith::LocalGet(index) => step_variable(context, stacks, VariableOp::LocalGet(index))?,
-        OpWith::LocalSet(index) => step_variable(context, stacks, VariableOp::LocalSet(index))?,
-        OpWith::LocalTee(index) => step_variable(context, stacks, VariableOp::LocalTee(index))?,
-        OpWith::I32Const(value) => step_i32_const(stacks, value)?,
-        OpWith::Numeric(op) => step_numeric(stacks, op)?,
-        OpWith::Load(width, align, offset) => step_load(
-            context,
-            stacks,
-            LoadOp::Whole(width),
-            align,
-            offset,
-        )?,
-        OpWith::Store(width, align, offset) => step_store(
-            context,
-            stacks,
-            StoreOp::Whole(width),
-            align,
-            offset,
-        )?,
-        OpWith::Load8(width, sign, align, offset) => step_load(
-            context,
-            stacks,
-            LoadOp::Bits8(width, sign),
-            align,
-            offset,
-        )?,
-        OpWith::Store8(width, align, offset) => step_store(
-            context,
-            stacks,
-            StoreOp::Bits8(width),
-            align,
-            offset,
-        )?,
-        OpWith::Br(label) => step_control(context, stacks, ControlOp::Br(label))?,
-        OpWith::BrIf(label) => step_control(context, stacks, ControlOp::BrIf(label))?,
-        OpWith::Call(function) => step_control(context, stacks, ControlOp::Call(function))?,
-        OpWith::Block(_) | OpWith::Loop(_) | OpWith::If(_) | OpWith::Else | OpWith::End =>
-            step_mark(context, stacks, ops, index)?,
-        _ => step_any(alloc, context, stacks, ops, index)?,
-    }
-    Ok(())
 }

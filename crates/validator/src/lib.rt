@@ -20,7 +20,9 @@ mod start;
 mod tables;
 mod types;
 mod valid_module;
+mod visitor;
 
 pub use errors::{Place, ValidateError};
-pub use modules::validate;
+pub use modules::{validate, validate_with};
 pub use valid_module::ValidModule;
+pub use visitor::Visitor;

@@ -5,6 +5,7 @@ ghost use Rattle.export_names.specs.Order.{IsNameOrder};
 ghost use Rattle.validator.specs.Constants.{IsConstantContext};
 ghost use Rattle.validator.specs.Modules.{HasValidDeclarations, HasValidParts};
 ghost use Rattle.validator.specs.References.{HasMarks};
+ghost use Rattle.validator.specs.Visiting.{InTurn, IsShownFunction};
 ghost use Rattle.validator.specs.declared.errors.Place.TheVariants.{Section};
 ghost use Rattle.validator.specs.declared.errors.ValidateError.TheVariants.{Invalid, OutOfMemory};
 
@@ -21,6 +22,7 @@ use crate::memories::{are_valid_memories, is_at_most_one};
 use crate::start::is_valid_start;
 use crate::tables::are_valid_tables;
 use crate::valid_module::ValidModule;
+use crate::visitor::{NoVisitor, Visitor};
 use core_types::Module;
 use export_names::NameOrder;
 use index_spaces::IndexSpaces;
@@ -99,17 +101,46 @@ fn validate_parts(
     )
 }
 
-// Checks a module by each rule, given the order of its exports' names.
-fn validate_module(alloc: Global, decoded: &Module, names: &NameOrder) -> Result<(), ValidateError>
+// Checks a module by each rule, given the order of its exports' names, and shows its functions to the visitor.
+fn validate_module<V: Visitor>(
+    alloc: Global,
+    decoded: &Module,
+    names: &NameOrder,
+    visitor: &mut V,
+) -> Result<(), ValidateError>
     requires { IsNameOrder decoded.now.exports names.now }
     ensures valid { OnOk result (IsValid decoded.now) }
     ensures invalid { IfErr result (λ error. (error ≡ OutOfMemory) ⊎ (¬ IsValid decoded.now)) }
+    ensures shown { OnOk result (InTurn (IsShownFunction V.Begins V.Visits V.Ends decoded.now.types)
+        visitor.old decoded.now.funcs visitor.new) }
 {
     validate_declarations(decoded)?;
     let spaces = IndexSpaces::new(alloc, decoded)?;
     let declared = mark_references(alloc, decoded, spaces.functions.len())?;
     validate_parts(decoded, &spaces, &declared, names)?;
-    validate_functions(alloc, decoded, &spaces, &declared)
+    validate_functions(alloc, decoded, &spaces, &declared, visitor)
+}
+
+/// Checks a module in one pass over its operations, without recursion, and shows them to a visitor. Returns the order of the names of
+/// its exports (Validation, Modules).
+///
+/// # Errors
+///
+/// Fails with `Invalid`, and the place that no typing accepts, or with `OutOfMemory`, also if the visitor fails.
+pub fn validate_with<V: Visitor>(
+    alloc: Global,
+    decoded: &Module,
+    visitor: &mut V,
+) -> Result<NameOrder, ValidateError>
+    ensures names { IfOk result (λ names. IsNameOrder decoded.now.exports names) }
+    ensures valid { OnOk result (IsValid decoded.now) }
+    ensures invalid { IfErr result (λ error. (error ≡ OutOfMemory) ⊎ (¬ IsValid decoded.now)) }
+    ensures shown { OnOk result (InTurn (IsShownFunction V.Begins V.Visits V.Ends decoded.now.types)
+        visitor.old decoded.now.funcs visitor.new) }
+{
+    let names = NameOrder::new(alloc, decoded.exports.as_slice())?;
+    validate_module(alloc, decoded, &names, visitor)?;
+    Ok(names)
 }
 
 /// Checks a module in one pass over its operations, without recursion (Validation, Modules).
@@ -122,7 +153,6 @@ pub fn validate(alloc: Global, decoded: Module) -> Result<ValidModule, ValidateE
     ensures valid { OnOk result (IsValid decoded) }
     ensures invalid { IfErr result (λ error. (error ≡ OutOfMemory) ⊎ (¬ IsValid decoded)) }
 {
-    let names = NameOrder::new(alloc, decoded.exports.as_slice())?;
-    validate_module(alloc, &decoded, &names)?;
+    let names = validate_with(alloc, &decoded, &mut NoVisitor {})?;
     Ok(ValidModule::new(decoded, names))
 }

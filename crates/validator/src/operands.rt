@@ -56,15 +56,20 @@ pub fn pop_one(operands: &mut OperandStack<'_>, frame: &ControlFrame<'_>, wanted
     pop_fitting(operands, frame, OperandType::Known(wanted))
 }
 
+// Pops an operand of the type on top, and then one of the type under it.
 #[inline(always)]
-pub fn pop_two(operands: &mut OperandStack<'_>, frame: &ControlFrame<'_>, wanted: ValType) -> bool
-    ensures { Pops frame.now operands.old (known (wanted ∷ wanted ∷ []))
-        operands.new result }
+pub fn pop_two(
+    operands: &mut OperandStack<'_>,
+    frame: &ControlFrame<'_>,
+    under: ValType,
+    top: ValType,
+) -> bool
+    ensures { Pops frame.now operands.old (known (under ∷ top ∷ [])) operands.new result }
 {
-    if !pop_fitting(operands, frame, OperandType::Known(wanted)) {
+    if !pop_fitting(operands, frame, OperandType::Known(top)) {
         return false;
     }
-    pop_one(operands, frame, wanted)
+    pop_one(operands, frame, under)
 }
 
 // Replaces the topmost operand of the frame with one of another type, if its type is known and is this one. Returns whether it

@@ -31,7 +31,7 @@ impl ValidModule {
     ghost use Rattle.meaning.specs.validation.Modules.{IsValid};
 
     // Creates a valid module. The module must meet each rule.
-    pub(crate) fn new(inner: Module, names: NameOrder) -> ValidModule
+    pub fn new(inner: Module, names: NameOrder) -> ValidModule
         requires valid { IsValid inner }
         requires names { IsNameOrder inner.exports names }
         ensures { result ≡ inner }

@@ -4,8 +4,8 @@ use Rattle.std.specs.Prelude.{Some}
 use Rattle.std.proofs.lemmas.Bool.{eqb-true}
 use Rattle.meaning.specs.binary.Conventions.{Reads, SpellsPair, SpellsTagged}
 use Rattle.meaning.specs.binary.Values.{SpellsByte, SpellsUnsigned}
-use Rattle.binary.specs.Conventions.{Cases, Reading, bare_at, case_at, chosen_at, mapped_at, mapped_case, no_case, pair_at, up_to}
-use Rattle.binary.specs.Values.{byte_at}
+use Rattle.core_types.specs.reading.Conventions.{Cases, Reading, bare_at, case_at, chosen_at, mapped_at, mapped_case, no_case, pair_at, up_to}
+use Rattle.core_types.specs.reading.Values.{byte_at}
 use Rattle.binary.proofs.exactness.Readers.{IsReader, Spelling, bind_some, both_complete, both_sound, chosen, found, found-injective, mapped_sound}
 
 pub byte_reader : IsReader SpellsByte byte_at

@@ -10,7 +10,7 @@ use Rattle.meaning.specs.binary.Instructions.{SpellsBody, SpellsFlat, opcode_of}
 use Rattle.meaning.specs.binary.Types.{SpellsBlockType}
 use Rattle.meaning.specs.structure.Bodies.{BlockKind, Body, Empty, IfElse, IfKind, Kind, LoopKind, Nested, Then, mark_of, writing}
 use Rattle.binary.specs.Expressions.{expression_at, next_bodies, on_next, ops_at}
-use Rattle.binary.specs.Instructions.{op_at}
+use Rattle.core_types.specs.reading.Instructions.{op_at}
 use Rattle.binary.specs.declared.expressions.Flow.{Flow}
 use Rattle.binary.specs.declared.expressions.Flow.TheVariants.{Ended, Misplaced, Continues}
 use Rattle.binary.specs.declared.expressions.OpenBody.{OpenBody}
@@ -21,7 +21,7 @@ use Rattle.binary.proofs.exactness.instructions.Operations.{SpellsOp, op_has_byt
 
 -- ---- a tree is encoded as its writing is, operation by operation
 
-abbrev SpellsOps : List ℕ → List Op → Type 0
+abbrev pub SpellsOps : List ℕ → List Op → Type 0
 SpellsOps bytes ops = SpellsEach SpellsOp bytes ops
 
 joined : (bytes others : List ℕ) (ops more : List Op) → SpellsOps bytes ops → SpellsOps others more
@@ -111,16 +111,17 @@ body_of_ops (IfElse t inner other rest) bytes (begin, behind, parts, here, spelt
 -- ---- the loop over the operations
 
 -- what is read after other operations
-record ReadsOps (open_bodies : List OpenBody) (front : List Op) (bytes : List ℕ) (ops : List Op) (rest : List ℕ)
+pub record ReadsOps (open_bodies : List OpenBody) (front : List Op) (bytes : List ℕ) (ops : List Op) (rest : List ℕ)
     : Type 0 where
-  more : List Op
-  text : List ℕ
-  spelt : SpellsOps text more
-  parts : bytes ≡ text ++ (0x0B ∷ rest)
-  all : ops ≡ front ++ more
-  closes : ClosesBodies open_bodies more
+  pub more : List Op
+  pub text : List ℕ
+  pub spelt : SpellsOps text more
+  pub parts : bytes ≡ text ++ (0x0B ∷ rest)
+  pub all : ops ≡ front ++ more
+  pub closes : ClosesBodies open_bodies more
 
-ended_end : (open_bodies : List OpenBody) (op : Op) → (next_bodies open_bodies op).0 ≡ Ended
+-- Only an end ends an expression.
+pub ended_end : (open_bodies : List OpenBody) (op : Op) → (next_bodies open_bodies op).0 ≡ Ended
     → (op ≡ End) × (open_bodies ≡ [])
 ended_end open_bodies (Plain op) e = absurd cc
 ended_end open_bodies (Block t) e = absurd cc
@@ -132,7 +133,7 @@ ended_end (InIf ∷ open_bodies) Else e = absurd cc
 ended_end [] End e = (refl, refl)
 ended_end (open_body ∷ open_bodies) End e = absurd cc
 
-ops_sound : (steps : ℕ) (open_bodies : List OpenBody) (front ops : List Op) (bytes rest : List ℕ)
+pub ops_sound : (steps : ℕ) (open_bodies : List OpenBody) (front ops : List Op) (bytes rest : List ℕ)
     → ops_at steps open_bodies front bytes ≡ Some (ops, rest) → ReadsOps open_bodies front bytes ops rest
 unfolding ops_at
 ops_sound zero open_bodies front ops bytes rest e = absurd cc

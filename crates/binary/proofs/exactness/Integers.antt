@@ -7,7 +7,7 @@ use Rattle.meaning.specs.binary.Conventions.{Reads}
 use Rattle.meaning.specs.binary.Values.{EndsSigned, SpellsSigned, SpellsUnsigned}
 use Rattle.leb.proofs.SignedLaws.{last_reads as last_signed, more_reads as more_signed}
 use Rattle.leb.proofs.UnsignedLaws.{last_reads as last_unsigned, more_reads as more_unsigned}
-use Rattle.binary.specs.Values.{last_byte_at, signed_at, unsigned_at}
+use Rattle.core_types.specs.reading.Values.{last_byte_at, signed_at, unsigned_at}
 use Rattle.binary.proofs.exactness.Readers.{IsReader, chosen, found, found-injective, if_bind, if_some}
 
 unsigned_sound : (bits : ℕ) (bytes rest : List ℕ) (n : ℕ) → unsigned_at bits bytes ≡ Some (n, rest)

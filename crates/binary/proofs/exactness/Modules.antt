@@ -10,11 +10,11 @@ use Rattle.core_types.specs.declared.module.Module.{Module}
 use Rattle.core_types.specs.declared.types.Limits.{Limits}
 use Rattle.core_types.specs.declared.types.TableType.{TableType}
 use Rattle.meaning.specs.binary.Modules.{IsDataCount, SpellsModule, SpellsSections}
-use Rattle.binary.specs.Conventions.{◌>>=◌}
+use Rattle.core_types.specs.reading.Conventions.{◌>>=◌}
 use Rattle.binary.specs.Errors.{IsNoModule}
 use Rattle.binary.specs.Limits.{HasSmallParts}
 use Rattle.binary.specs.Modules.{Sections, contents_at, contents_of, count_of, definitions_at, definitions_of, header, module_at, module_of, sections_at}
-use Rattle.binary.specs.Values.{expected_at}
+use Rattle.core_types.specs.reading.Values.{expected_at}
 use Rattle.binary.specs.declared.modules.Contents.{Contents}
 use Rattle.binary.specs.declared.modules.Definitions.{Definitions}
 use Rattle.binary.proofs.exactness.Integers.{unsigned_reader}

@@ -4,8 +4,8 @@ use Rattle.std.specs.Prelude.{None, Option, Some}
 use Rattle.std.proofs.lemmas.Bool.{eqb-true}
 use Rattle.std.proofs.lemmas.List.{append-nil}
 use Rattle.meaning.specs.binary.Conventions.{NoFront, Reads, SpellsBoth, SpellsPair, SpellsTagged}
-use Rattle.binary.specs.Conventions.{Reading, ◌>>=◌}
-use Rattle.binary.specs.Values.{begins_with}
+use Rattle.core_types.specs.reading.Conventions.{Reading, ◌>>=◌}
+use Rattle.core_types.specs.reading.Values.{begins_with}
 
 -- The relation of bytes to the value that they encode.
 abbrev pub Spelling : Type 0 → Type 1

@@ -14,10 +14,12 @@ use Rattle.core_types.specs.declared.types.ValType.TheVariants.{ExternRef, FuncR
 use Rattle.meaning.specs.binary.Conventions.{Reads, SpellsPair}
 use Rattle.meaning.specs.binary.Types.{SpellsBlockType, SpellsBounds, SpellsFuncType, SpellsGlobalType, SpellsLimits, SpellsMutability, SpellsRefType, SpellsTableType, SpellsValType}
 use Rattle.meaning.specs.binary.Values.{SpellsByte, SpellsSigned, SpellsUnsigned, SpellsVector}
-use Rattle.binary.specs.Conventions.{mapped_at, pair_at, ◌>>=◌}
-use Rattle.binary.specs.Types.{between, block_type_at, from_least, func_type, func_type_at, global_type, global_type_at, index_of, limits_at, limits_case}
-use Rattle.binary.specs.Types.{mutability_at, mutability_case, ref_type_at, ref_type_case, table_type, table_type_at, val_type_at, val_type_case}
-use Rattle.binary.specs.Values.{begins_negative, begins_with, signed_at, unsigned_at, vector_at}
+use Rattle.core_types.specs.reading.Conventions.{mapped_at, pair_at, ◌>>=◌}
+use Rattle.core_types.specs.reading.Types.{block_type_at, index_of}
+use Rattle.binary.specs.Types.{between, from_least, func_type, func_type_at, global_type, global_type_at, limits_at, limits_case}
+use Rattle.core_types.specs.reading.Types.{ref_type_at, ref_type_case, val_type_at, val_type_case}
+use Rattle.binary.specs.Types.{mutability_at, mutability_case, table_type, table_type_at}
+use Rattle.core_types.specs.reading.Values.{begins_negative, begins_with, signed_at, unsigned_at, vector_at}
 use Rattle.binary.proofs.exactness.Choices.{IsFront, at_byte, bare_sound, byte_reader, case_sound, choice_reader, mapped_reader, no_case_sound, pair_reader, tag_sound}
 use Rattle.binary.proofs.exactness.Integers.{signed_reader, unsigned_reader}
 use Rattle.binary.proofs.exactness.Readers.{IsReader, begins, bind_some, chosen, found, found-injective, mapped_sound}

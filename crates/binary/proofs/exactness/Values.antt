@@ -8,8 +8,9 @@ use Rattle.std.specs.Str.{is_utf8}
 use Rattle.meaning.specs.binary.Conventions.{Reads, SpellsEach}
 use Rattle.meaning.specs.binary.Instructions.{SpellsExactly}
 use Rattle.meaning.specs.binary.Values.{SpellsByte, SpellsIndex, SpellsName, SpellsSized, SpellsUnsigned, SpellsVector}
-use Rattle.binary.specs.Conventions.{Reading, ◌>>=◌}
-use Rattle.binary.specs.Values.{begins_with, each_at, expected_at, index_at, name_at, part_at, sized_at, unsigned_at, vector_at}
+use Rattle.core_types.specs.reading.Conventions.{Reading, ◌>>=◌}
+use Rattle.core_types.specs.reading.Values.{begins_with, each_at, expected_at, index_at, unsigned_at, vector_at}
+use Rattle.binary.specs.Values.{name_at, part_at, sized_at}
 use Rattle.binary.proofs.exactness.Integers.{unsigned_reader}
 use Rattle.binary.proofs.exactness.Readers.{IsReader, IsWholeReader, Spelling, begins, bind_some, found, found-injective, if_found, if_some, unless_some}
 

@@ -4,7 +4,7 @@ use Rattle.std.specs.Prelude.{None, Some}
 use Rattle.std.proofs.lemmas.List.{nil_from_length}
 use Rattle.binary.specs.Errors.{OnRefused}
 use Rattle.binary.specs.Sections.{after_customs, custom_at, customs_at}
-use Rattle.binary.specs.Values.{begins_with}
+use Rattle.core_types.specs.reading.Values.{begins_with}
 use Rattle.binary.specs.declared.errors.DecodeError.{DecodeError}
 use Rattle.binary.proofs.Refusals.{OnRefused-map}
 use Rattle.binary.proofs.exactness.Readers.{begins}

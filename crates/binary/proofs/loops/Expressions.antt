@@ -1,47 +1,23 @@
 -- Reading an expression, as a loop does.
-use Rattle.std.proofs.Common.{List, [], ap, arith, length, refl, suc, sym, zero, ℕ, ◌++◌, ◌<◌, ◌∙◌, ◌∷◌, ◌≡◌, ◌≤◌}
-use Rattle.std.specs.Prelude.{None, Ok, Option, Result, Some}
+use Rattle.std.proofs.Common.{List, [], ap, arith, length, length-append, refl, suc, sym, take, zero, ℕ, ◌++◌, ◌-◌, ◌<◌, ◌∙◌, ◌∷◌, ◌≡◌, ◌≤◌}
+use Rattle.std.specs.Prelude.{None, Some}
+use Rattle.std.proofs.Math.Seq.{take-append_seam}
 use Rattle.core_types.specs.declared.op.Op.{Op}
+use Rattle.core_types.specs.reading.Bodies.{operations_in}
 use Rattle.binary.specs.Errors.{OnRefused}
-use Rattle.binary.specs.Conventions.{OnRead}
-use Rattle.binary.specs.Expressions.{IsReadingExpression, ReadsNext, after_next, expression_at, next_bodies, ops_at}
-use Rattle.binary.specs.Instructions.{op_at, operation_at}
-use Rattle.binary.specs.Values.{byte_at}
+use Rattle.binary.specs.Values.{first_byte}
+use Rattle.binary.specs.Expressions.{IsReadingExpression, expression_at, next_bodies, ops_at}
+use Rattle.core_types.specs.reading.Instructions.{op_at}
 use Rattle.binary.specs.declared.errors.DecodeError.{DecodeError}
-use Rattle.binary.specs.declared.expressions.Flow.{Flow}
-use Rattle.binary.specs.declared.expressions.Flow.TheVariants.{Ended, Misplaced, Continues}
+use Rattle.binary.specs.declared.expressions.Flow.TheVariants.{Continues, Ended, Misplaced}
 use Rattle.binary.specs.declared.expressions.OpenBody.{OpenBody}
 use Rattle.binary.proofs.Refusals.{OnRefused-map}
+use Rattle.binary.proofs.exactness.Expressions.{ops_sound}
+use Rattle.binary.proofs.loops.Bodies.{encoded_is_read}
 
 pub expression_begins : (whole : List ℕ) → IsReadingExpression whole whole [] []
 unfolding expression_at
 expression_begins whole = record { steps = length whole; enough = omega arith; so_far = refl }
-
--- An operation is read after its opcode.
-pub chosen : (bytes rest : List ℕ) (code : ℕ) → byte_at bytes ≡ Some (code, rest) → op_at bytes ≡ operation_at code rest
-unfolding op_at
-chosen bytes rest code is = rw is refl
-
-module _ (result : Result Flow DecodeError) (bodies new : List OpenBody) (ops behind : List Op) (bytes rest after : List ℕ) (code : ℕ) (is : byte_at bytes ≡ Some (code, rest)) where
-  -- What is read after an opcode is read with it.
-  pub reads_behind : ReadsNext result bodies new ops behind after (operation_at code rest) → ReadsNext result bodies new ops behind after (op_at bytes)
-  reads_behind reads = rw (chosen bytes rest code is) reads
-
--- What was read.
-pub record HasRead (bytes after : List ℕ) (next : Flow) (bodies new : List OpenBody) (ops behind : List Op) : Type 0 where
-  pub op : Op
-  pub read_is : op_at bytes ≡ Some (op, after)
-  pub passed : next_bodies bodies op ≡ (next, new)
-  pub behind_is : behind ≡ after_next next ops op
-
-pub has-read : (bytes after : List ℕ) (next : Flow) (bodies new : List OpenBody) (ops behind : List Op)
-    → ReadsNext (Ok next) bodies new ops behind after (op_at bytes) → HasRead bytes after next bodies new ops behind
-has-read bytes after next bodies new ops behind h = go (op_at bytes) refl h
-  where
-    go : (read : Option (Op × List ℕ)) → op_at bytes ≡ read → OnRead read (λ op left. (left ≡ after) × (next_bodies bodies op ≡ (next, new)) × (behind ≡ after_next next ops op))
-        → HasRead bytes after next bodies new ops behind
-    go None e h = absurd h
-    go (Some (op, left)) e (same, passed, is) = record { op = op; read_is = e ∙ ap (λ (rest : List ℕ). Some (op, rest)) same; passed = passed; behind_is = is }
 
 module _ (whole bytes : List ℕ) (open_bodies : List OpenBody) (ops : List Op) (inside : IsReadingExpression whole bytes open_bodies ops) where
   module _ (op : Op) (after : List ℕ) (shorter : length after < length bytes) (read_is : op_at bytes ≡ Some (op, after)) (new : List OpenBody) where
@@ -85,7 +61,41 @@ module _ (whole bytes : List ℕ) (open_bodies : List OpenBody) (ops : List Op) 
       OnRefused-map error (op_at bytes ≡ None) (expression_at whole ≡ None)
       (λ none. sym inside.so_far ∙ none_inside inside.steps none) refused
 
--- If no opcode is read, no operation is.
-pub no_opcode : (bytes : List ℕ) (error : DecodeError) → OnRefused error (byte_at bytes ≡ None) → OnRefused error (op_at bytes ≡ None)
+-- Nothing is read of no bytes.
+pub no_first : (bytes : List ℕ) → first_byte bytes ≡ None → op_at bytes ≡ None
 unfolding op_at
-no_opcode bytes error refused = OnRefused-map error (byte_at bytes ≡ None) (op_at bytes ≡ None) (λ none. rw none refl) refused
+no_first [] none = refl
+no_first (byte ∷ bytes) none = absurd cc
+
+-- The bytes of an expression before its last end are its operations, one after the other.
+pub record HasBody (bytes rest : List ℕ) (ops : List Op) : Type 0 where
+  pub text : List ℕ
+  pub parts : bytes ≡ text ++ (0x0B ∷ rest)
+  pub encoded : operations_in text ≡ Some ops
+
+pub expression_has_body : (bytes rest : List ℕ) (ops : List Op) → expression_at bytes ≡ Some (ops, rest) → HasBody bytes rest ops
+unfolding expression_at
+expression_has_body bytes rest ops e =
+    let read = ops_sound (length bytes) [] [] ops bytes rest e in
+    record {
+      text = read.text;
+      parts = read.parts;
+      encoded = encoded_is_read read.text read.more read.spelt ∙ ap (λ (z : List Op). Some z) (sym read.all);
+    }
+
+-- They are read.
+pub body_is_read : (bytes rest text : List ℕ) (ops : List Op) → expression_at bytes ≡ Some (ops, rest)
+    → text ≡ take (length bytes - length rest - 1) bytes → operations_in text ≡ Some ops
+body_is_read bytes rest text ops e is =
+    let has = expression_has_body bytes rest ops e in
+    let long : length bytes - length rest - 1 ≡ length has.text =
+    omega (arith, ap length has.parts, length-append has.text (0x0B ∷ rest)) in
+    let same : take (length bytes - length rest - 1) bytes ≡ has.text =
+    ap (λ (n : ℕ). take n bytes) long ∙ ap (λ (z : List ℕ). take (length has.text) z) has.parts ∙ take-append_seam has.text (0x0B ∷ rest) in
+    rw (is ∙ same) has.encoded
+
+-- More bytes were read than one.
+pub body_is_shorter : (bytes rest : List ℕ) (ops : List Op) → expression_at bytes ≡ Some (ops, rest) → suc (length rest) ≤ length bytes
+body_is_shorter bytes rest ops e =
+    let has = expression_has_body bytes rest ops e in
+    omega (arith, ap length has.parts, length-append has.text (0x0B ∷ rest))

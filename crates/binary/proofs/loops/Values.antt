@@ -1,11 +1,12 @@
 -- Reading a vector and expected bytes, as a loop does.
-use Rattle.std.proofs.Common.{List, [], arith, drop, false, get_or, length, refl, suc, sym, true, ℕ, ◌++◌, ◌+◌, ◌-◌, ◌<◌, ◌∙◌, ◌∷◌, ◌≡◌, ◌≤◌}
-use Rattle.std.specs.Prelude.{None, Option, Some}
+use Rattle.std.proofs.Common.{List, [], ap, arith, drop, false, get_or, length, refl, suc, sym, true, ℕ, ◌++◌, ◌+◌, ◌-◌, ◌<◌, ◌∙◌, ◌∷◌, ◌≡◌, ◌≤◌}
+use Rattle.std.specs.Prelude.{None, Option, Some, ◌≢◌}
 use Rattle.std.proofs.Math.ListN.{drop_of_length-le}
 use Rattle.std.proofs.lemmas.List.{drop_more}
-use Rattle.binary.specs.Conventions.{Reading}
+use Rattle.core_types.specs.reading.Conventions.{Reading, ◌>>=◌}
 use Rattle.binary.specs.Errors.{OnRefused}
-use Rattle.binary.specs.Values.{begins_with, each_at, expected_at}
+use Rattle.core_types.specs.reading.Values.{begins_with, byte_at, each_at, expected_at}
+use Rattle.binary.specs.Values.{first_byte}
 use Rattle.binary.specs.declared.errors.DecodeError.{DecodeError}
 use Rattle.binary.proofs.Refusals.{OnRefused-map}
 
@@ -58,3 +59,21 @@ module _ (expected : List ℕ) (i : ℕ) (bytes : List ℕ) (total : Option (Uni
       let turn : expected_at (drop i expected) bytes ≡ Some (tt, bytes) =
       rw (drop_of_length-le expected over) refl in
       sym so_far ∙ turn
+
+-- ---- the next byte
+
+pub first_is_read : (bytes : List ℕ) (byte : ℕ) → first_byte bytes ≡ Some byte → byte_at bytes ≡ Some (byte, drop 1 bytes)
+first_is_read [] byte is = absurd cc
+first_is_read (first ∷ bytes) byte is = ap (λ (found : Option ℕ). found >>= λ (b : ℕ). Some (b, bytes)) is
+
+pub some_bytes : (bytes : List ℕ) (byte : ℕ) → first_byte bytes ≡ Some byte → 0 < length bytes
+some_bytes [] byte is = absurd cc
+some_bytes (first ∷ bytes) byte is = omega arith
+
+pub any_bytes : (bytes : List ℕ) → first_byte bytes ≢ None → 0 < length bytes
+any_bytes [] not = absurd (not refl)
+any_bytes (first ∷ bytes) not = omega arith
+
+pub no_bytes : (bytes : List ℕ) → first_byte bytes ≡ None → length bytes ≡ 0
+no_bytes [] none = refl
+no_bytes (first ∷ bytes) none = absurd cc

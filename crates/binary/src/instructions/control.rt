@@ -1,7 +1,7 @@
 //! Control instructions without a body (Binary Format, Control Instructions).
 
 ghost use Rattle.binary.specs.Conventions.{Gives};
-ghost use Rattle.binary.specs.Instructions.{branch_table_at, control_at};
+ghost use Rattle.core_types.specs.reading.Instructions.{branch_table_at, control_at};
 
 use crate::errors::DecodeError;
 use crate::reader::Reader;
@@ -10,7 +10,7 @@ use core_types::{BranchTable, ControlOp};
 use std::alloc::Global;
 
 // Reads the rest of a control instruction, whose opcode was read at the offset.
-#[tactic(auto, unfolding(crate::specs::Instructions::control_at))]
+#[tactic(auto, unfolding(core_types::specs::reading::Instructions::control_at))]
 #[inline(always)]
 pub fn read_control(
     reader: &mut Reader<'_>,
@@ -42,7 +42,7 @@ pub fn read_control(
 }
 
 // Reads the labels of a branch table, and its default.
-#[tactic(auto, unfolding(crate::specs::Instructions::branch_table_at))]
+#[tactic(auto, unfolding(core_types::specs::reading::Instructions::branch_table_at))]
 pub fn read_branch_table(alloc: Global, reader: &mut Reader<'_>) -> Result<BranchTable, DecodeError>
     ensures { Gives result reader.new (branch_table_at reader.old) }
 {

@@ -1,11 +1,8 @@
 //! Memory instructions (Binary Format, Memory Instructions).
 
-ghost use Rattle.std.specs.Prelude.{IfOk, false, ◌≡◌, ◌≤◌};
-ghost use Rattle.core_types.specs.declared.op.Op.TheVariants.{Plain};
-ghost use Rattle.core_types.specs.declared.op.PlainOp.TheVariants as plain;
-ghost use Rattle.meaning.specs.binary.Modules.{names_data};
+ghost use Rattle.std.specs.Prelude.{◌≤◌};
 ghost use Rattle.binary.specs.Conventions.{Gives};
-ghost use Rattle.binary.specs.Instructions.{load_at, mem_arg_at, memory_at, prefixed_memory_at, store_at};
+ghost use Rattle.core_types.specs.reading.Instructions.{load_at, mem_arg_at, memory_at, prefixed_memory_at, store_at};
 
 use crate::errors::DecodeError;
 use crate::instructions::rows::op_of;
@@ -44,7 +41,7 @@ const STORES: [Option<StoreOp>; 9] = [
     Some(StoreOp::Bits32),
 ];
 
-#[tactic(auto, unfolding(crate::specs::Instructions::mem_arg_at))]
+#[tactic(auto, unfolding(core_types::specs::reading::Instructions::mem_arg_at))]
 #[inline(always)]
 fn read_mem_arg(reader: &mut Reader<'_>) -> Result<MemArg, DecodeError>
     ensures { Gives result reader.new (mem_arg_at reader.old) }
@@ -54,12 +51,11 @@ fn read_mem_arg(reader: &mut Reader<'_>) -> Result<MemArg, DecodeError>
     Ok(MemArg { align, offset })
 }
 
-#[tactic(auto, unfolding(crate::specs::Instructions::load_at))]
+#[tactic(auto, unfolding(core_types::specs::reading::Instructions::load_at))]
 #[inline(always)]
 fn read_load(reader: &mut Reader<'_>, code: u8, offset: usize) -> Result<MemoryOp, DecodeError>
     requires { 0x28 ≤ code }
-    ensures gives { Gives result reader.new (load_at code reader.old) }
-    ensures data { IfOk result (λ op. names_data (Plain (plain.Memory op)) ≡ false) }
+    ensures { Gives result reader.new (load_at code reader.old) }
 {
     match op_of(&LOADS, 0x28, code) {
         Some(op) => Ok(MemoryOp::Load(op, read_mem_arg(reader)?)),
@@ -67,12 +63,11 @@ fn read_load(reader: &mut Reader<'_>, code: u8, offset: usize) -> Result<MemoryO
     }
 }
 
-#[tactic(auto, unfolding(crate::specs::Instructions::store_at))]
+#[tactic(auto, unfolding(core_types::specs::reading::Instructions::store_at))]
 #[inline(always)]
 fn read_store(reader: &mut Reader<'_>, code: u8, offset: usize) -> Result<MemoryOp, DecodeError>
     requires { 0x36 ≤ code }
-    ensures gives { Gives result reader.new (store_at code reader.old) }
-    ensures data { IfOk result (λ op. names_data (Plain (plain.Memory op)) ≡ false) }
+    ensures { Gives result reader.new (store_at code reader.old) }
 {
     match op_of(&STORES, 0x36, code) {
         Some(op) => Ok(MemoryOp::Store(op, read_mem_arg(reader)?)),
@@ -81,7 +76,7 @@ fn read_store(reader: &mut Reader<'_>, code: u8, offset: usize) -> Result<Memory
 }
 
 // Reads the rest of a memory instruction, whose opcode, from 28 on, was read at the offset.
-#[tactic(auto, unfolding(crate::specs::Instructions::memory_at))]
+#[tactic(auto, unfolding(core_types::specs::reading::Instructions::memory_at))]
 #[inline(always)]
 pub fn read_memory(
     reader: &mut Reader<'_>,
@@ -89,8 +84,7 @@ pub fn read_memory(
     offset: usize,
 ) -> Result<MemoryOp, DecodeError>
     requires { 0x28 ≤ code }
-    ensures gives { Gives result reader.new (memory_at code reader.old) }
-    ensures data { IfOk result (λ op. names_data (Plain (plain.Memory op)) ≡ false) }
+    ensures { Gives result reader.new (memory_at code reader.old) }
 {
     match code {
         0x00..=0x35 => read_load(reader, code, offset),
@@ -108,7 +102,7 @@ pub fn read_memory(
 }
 
 // Reads the rest of a memory instruction with this number after the byte FC, which was read at the offset.
-#[tactic(auto, unfolding(crate::specs::Instructions::prefixed_memory_at))]
+#[tactic(auto, unfolding(core_types::specs::reading::Instructions::prefixed_memory_at))]
 pub fn read_prefixed_memory(
     reader: &mut Reader<'_>,
     number: u32,

@@ -1,7 +1,7 @@
 //! Numeric instructions without an immediate (Binary Format, Numeric Instructions).
 
 ghost use Rattle.std.specs.Prelude.{◌≡◌};
-ghost use Rattle.binary.specs.Instructions.{numeric_of};
+ghost use Rattle.core_types.specs.reading.Instructions.{numeric_of};
 
 use crate::instructions::rows::op_of;
 use core_types::{BinaryOp, Comparison, Conversion, NumericOp, UnaryOp, Width};
@@ -148,7 +148,7 @@ const NUMERICS: [Option<NumericOp>; 128] = [
 ];
 
 // The numeric instruction without an immediate of this opcode, if there is one.
-#[tactic(auto, unfolding(crate::specs::Instructions::numeric_of, crate::specs::Instructions::numerics))]
+#[tactic(auto, unfolding(core_types::specs::reading::Instructions::numeric_of, core_types::specs::reading::Instructions::numerics))]
 #[inline(always)]
 pub fn numeric_op(code: u8) -> Option<NumericOp>
     ensures { result ≡ numeric_of code }

@@ -1,14 +1,14 @@
 //! Parametric instructions without an immediate (Binary Format, Parametric Instructions).
 
 ghost use Rattle.binary.specs.Conventions.{Gives};
-ghost use Rattle.binary.specs.Instructions.{parametric_at};
+ghost use Rattle.core_types.specs.reading.Instructions.{parametric_at};
 
 use crate::errors::DecodeError;
 use crate::reader::Reader;
 use core_types::ParametricOp;
 
 // Reads the rest of a parametric instruction, whose opcode was read at the offset.
-#[tactic(auto, unfolding(crate::specs::Instructions::parametric_at))]
+#[tactic(auto, unfolding(core_types::specs::reading::Instructions::parametric_at))]
 #[inline(always)]
 pub fn read_parametric(
     reader: &mut Reader<'_>,

@@ -1,7 +1,7 @@
 //! Reference instructions (Binary Format, Reference Instructions).
 
 ghost use Rattle.binary.specs.Conventions.{Gives};
-ghost use Rattle.binary.specs.Instructions.{reference_at};
+ghost use Rattle.core_types.specs.reading.Instructions.{reference_at};
 
 use crate::errors::DecodeError;
 use crate::reader::Reader;
@@ -9,7 +9,7 @@ use crate::types::read_ref_type;
 use core_types::ReferenceOp;
 
 // Reads the rest of a reference instruction, whose opcode was read at the offset.
-#[tactic(auto, unfolding(crate::specs::Instructions::reference_at))]
+#[tactic(auto, unfolding(core_types::specs::reading::Instructions::reference_at))]
 #[inline(always)]
 pub fn read_reference(
     reader: &mut Reader<'_>,

@@ -1,7 +1,7 @@
 //! Rows of opcodes that are next to each other.
 
 ghost use Rattle.std.specs.Prelude.{◌≡◌, ◌≤◌};
-ghost use Rattle.binary.specs.Instructions.{in_row};
+ghost use Rattle.core_types.specs.reading.Instructions.{in_row};
 
 // The operation of an opcode, in a row of opcodes from the first on.
 pub fn op_of<T: Copy>(row: &[Option<T>], first: u8, code: u8) -> Option<T>

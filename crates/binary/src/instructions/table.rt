@@ -1,14 +1,14 @@
 //! Table instructions (Binary Format, Table Instructions).
 
 ghost use Rattle.binary.specs.Conventions.{Gives};
-ghost use Rattle.binary.specs.Instructions.{prefixed_table_at, table_at};
+ghost use Rattle.core_types.specs.reading.Instructions.{prefixed_table_at, table_at};
 
 use crate::errors::DecodeError;
 use crate::reader::Reader;
 use core_types::TableOp;
 
 // Reads the rest of a table instruction, whose opcode was read at the offset.
-#[tactic(auto, unfolding(crate::specs::Instructions::table_at))]
+#[tactic(auto, unfolding(core_types::specs::reading::Instructions::table_at))]
 #[inline(always)]
 pub fn read_table(reader: &mut Reader<'_>, code: u8, offset: usize) -> Result<TableOp, DecodeError>
     ensures { Gives result reader.new (table_at code reader.old) }
@@ -21,7 +21,7 @@ pub fn read_table(reader: &mut Reader<'_>, code: u8, offset: usize) -> Result<Ta
 }
 
 // Reads the rest of a table instruction with this number after the byte FC, which was read at the offset.
-#[tactic(auto, unfolding(crate::specs::Instructions::prefixed_table_at))]
+#[tactic(auto, unfolding(core_types::specs::reading::Instructions::prefixed_table_at))]
 pub fn read_prefixed_table(
     reader: &mut Reader<'_>,
     number: u32,

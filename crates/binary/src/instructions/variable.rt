@@ -1,14 +1,14 @@
 //! Variable instructions (Binary Format, Variable Instructions).
 
 ghost use Rattle.binary.specs.Conventions.{Gives};
-ghost use Rattle.binary.specs.Instructions.{variable_at};
+ghost use Rattle.core_types.specs.reading.Instructions.{variable_at};
 
 use crate::errors::DecodeError;
 use crate::reader::Reader;
 use core_types::VariableOp;
 
 // Reads the rest of a variable instruction, whose opcode was read at the offset.
-#[tactic(auto, unfolding(crate::specs::Instructions::variable_at))]
+#[tactic(auto, unfolding(core_types::specs::reading::Instructions::variable_at))]
 #[inline(always)]
 pub fn read_variable(
     reader: &mut Reader<'_>,

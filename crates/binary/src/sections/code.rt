@@ -1,9 +1,10 @@
 //! Functions with their locals and bodies (Binary Format, Code Section).
 
-ghost use Rattle.std.specs.Prelude.{IfOk, OnOk, [], false, ◌≡◌};
+ghost use Rattle.std.specs.Prelude.{IfOk, [], ◌≡◌, ◌||◌};
+ghost use Rattle.std.specs.List.{list_any};
+ghost use Rattle.meaning.specs.binary.Modules.{names_data};
 ghost use Rattle.binary.specs.Conventions.{Gives};
-ghost use Rattle.binary.specs.Instructions.{NotesData};
-ghost use Rattle.binary.specs.Sections.{NotesDataOfAll, code_at, code_section_at, codes_at, functions_at, groups_at, local_group_at, locals_at};
+ghost use Rattle.binary.specs.Sections.{code_at, code_section_at, codes_at, functions_at, groups_at, local_group_at, locals_at, name_data};
 
 use crate::errors::DecodeError;
 use crate::expressions::{OpenBody, read_body};
@@ -47,7 +48,7 @@ fn read_locals(alloc: Global, reader: &mut Reader<'_>) -> Result<Locals, DecodeE
     read_groups(alloc, reader, count)
 }
 
-// Reads a size, and a function whose type has this index. Reuses the room of a stack.
+// Reads a size, and a function whose type has this index. Reuses the room of a stack. Notes if its code names a data segment.
 #[tactic(auto, unfolding(crate::specs::Sections::code_at, crate::specs::Sections::function_content_at, crate::specs::Values::sized_at))]
 fn read_code(
     alloc: Global,
@@ -57,8 +58,8 @@ fn read_code(
     data_named: &mut bool,
 ) -> Result<Func, DecodeError>
     ensures reads { Gives result reader.new (code_at ty reader.old) }
-    ensures data { IfOk result (λ f. NotesData data_named.new f.body) }
-    ensures before { OnOk result (data_named.new ≡ false → data_named.old ≡ false) }
+    ensures data { IfOk result
+        (λ f. data_named.new ≡ (data_named.old || list_any names_data f.body)) }
 {
     let mut content = reader.part()?;
     let locals = read_locals(alloc, &mut content)?;
@@ -67,7 +68,7 @@ fn read_code(
     Ok(Func { ty, locals, body })
 }
 
-// Reads a function for each index of a type. Notes if their code may name a data segment.
+// Reads a function for each index of a type. Notes if their code names a data segment.
 fn read_codes(
     alloc: Global,
     reader: &mut Reader<'_>,
@@ -75,7 +76,7 @@ fn read_codes(
     data_named: &mut bool,
 ) -> Result<Items<Func>, DecodeError>
     ensures reads { Gives result reader.new (codes_at types.now [] reader.old) }
-    ensures data { IfOk result (NotesDataOfAll data_named.new) }
+    ensures data { IfOk result (λ funcs. data_named.new ≡ (data_named.old || name_data funcs)) }
 {
     let mut bodies = Stack::new(alloc);
     let mut funcs = Vec::new(alloc);
@@ -94,7 +95,7 @@ fn read_functions(
     data_named: &mut bool,
 ) -> Result<Items<Func>, DecodeError>
     ensures reads { Gives result reader.new (functions_at types.now reader.old) }
-    ensures data { IfOk result (NotesDataOfAll data_named.new) }
+    ensures data { IfOk result (λ funcs. data_named.new ≡ (data_named.old || name_data funcs)) }
 {
     let offset = reader.offset();
     let count = reader.u32()?;
@@ -104,7 +105,7 @@ fn read_functions(
     read_codes(alloc, reader, types, data_named)
 }
 
-// Reads the code section, which may be absent if there are no indices. Notes if its code may name a data segment.
+// Reads the code section, which may be absent if there are no indices. Notes if its code names a data segment.
 #[tactic(auto, unfolding(crate::specs::Sections::section_at, crate::specs::Values::sized_at))]
 pub fn read_code_section(
     alloc: Global,
@@ -113,7 +114,7 @@ pub fn read_code_section(
     data_named: &mut bool,
 ) -> Result<Items<Func>, DecodeError>
     ensures reads { Gives result reader.new (code_section_at types.now reader.old) }
-    ensures data { IfOk result (NotesDataOfAll data_named.new) }
+    ensures data { IfOk result (λ funcs. data_named.new ≡ (data_named.old || name_data funcs)) }
 {
     skip_customs(reader)?;
     if reader.accept(10) {

@@ -1,15 +1,9 @@
 -- The encodings of instructions, bodies and expressions (Binary Format, Instructions).
-use Rattle.std.specs.Prelude.{◌≡◌, ℕ, ◌+◌, ◌-◌, ◌^◌, ◌⊎◌, suc, ℤ, pos, negsuc, List, [], ◌∷◌, Option, Some, None, slice_get, ◌++◌}
-use Rattle.core_types.specs.declared.op.BinaryOp.{BinaryOp}
-use Rattle.core_types.specs.declared.op.BinaryOp.TheVariants.{Add, Sub, Mul, DivS, DivU, RemS, RemU, And, Or, Xor, Shl, ShrS, ShrU, Rotl, Rotr}
+use Rattle.std.specs.Prelude.{◌≡◌, ℕ, ◌+◌, ◌⊎◌, ℤ, List, [], ◌∷◌, Option, Some, slice_get, ◌++◌}
 use Rattle.core_types.specs.declared.op.BranchTable.{BranchTable}
-use Rattle.core_types.specs.declared.op.Comparison.{Comparison}
-use Rattle.core_types.specs.declared.op.Comparison.TheVariants.{Eq, Ne, LtS, LtU, GtS, GtU, LeS, LeU, GeS, GeU}
 use Rattle.core_types.specs.declared.op.ControlOp.{ControlOp}
 use Rattle.core_types.specs.declared.op.ControlOp.TheVariants.{Unreachable, Nop, Br, BrIf, Return, Call, CallIndirect, ReturnCall, ReturnCallIndirect}
 use Rattle.core_types.specs.declared.op.Conversion.TheVariants.{I32WrapI64, I64ExtendI32S, I64ExtendI32U, I64Extend32S}
-use Rattle.core_types.specs.declared.op.LoadOp.{LoadOp}
-use Rattle.core_types.specs.declared.op.LoadOp.TheVariants as load
 use Rattle.core_types.specs.declared.op.MemArg.{MemArg}
 use Rattle.core_types.specs.declared.op.MemoryOp.{MemoryOp}
 use Rattle.core_types.specs.declared.op.MemoryOp.TheVariants as memory
@@ -21,13 +15,8 @@ use Rattle.core_types.specs.declared.op.PlainOp.{PlainOp}
 use Rattle.core_types.specs.declared.op.PlainOp.TheVariants.{Control, BrTable, Reference, Parametric, SelectTyped, Variable, Table, Memory, Numeric, I32Const, I64Const}
 use Rattle.core_types.specs.declared.op.ReferenceOp.{ReferenceOp}
 use Rattle.core_types.specs.declared.op.ReferenceOp.TheVariants as reference
-use Rattle.core_types.specs.declared.op.Sign.TheVariants.{Signed, Unsigned}
-use Rattle.core_types.specs.declared.op.StoreOp.{StoreOp}
-use Rattle.core_types.specs.declared.op.StoreOp.TheVariants as store
 use Rattle.core_types.specs.declared.op.TableOp.{TableOp}
 use Rattle.core_types.specs.declared.op.TableOp.TheVariants as table
-use Rattle.core_types.specs.declared.op.UnaryOp.{UnaryOp}
-use Rattle.core_types.specs.declared.op.UnaryOp.TheVariants.{Clz, Ctz, Popcnt, Extend8S, Extend16S}
 use Rattle.core_types.specs.declared.op.VariableOp.{VariableOp}
 use Rattle.core_types.specs.declared.op.VariableOp.TheVariants.{LocalGet, LocalSet, LocalTee, GlobalGet, GlobalSet}
 use Rattle.core_types.specs.declared.op.Width.TheVariants.{W32, W64}
@@ -36,12 +25,8 @@ use Rattle.meaning.specs.binary.Conventions.{SpellsBoth, SpellsPair, SpellsTagge
 use Rattle.meaning.specs.binary.Types.{SpellsRefType, SpellsValType, SpellsBlockType}
 use Rattle.core_types.specs.declared.op.Op.{Op}
 use Rattle.meaning.specs.structure.Bodies.{Kind, BlockKind, LoopKind, IfKind, Body, Empty, Then, Nested, IfElse, writing}
-
--- The number of `bits` bits with which a signed one is stored: a negative one counts down from 2 ^ bits (Execution,
--- Numerics, Integers).
-abbrev pub stored : ℕ → ℤ → ℕ
-stored bits (pos n) = n
-stored bits (negsuc n) = 2 ^ bits - suc n
+use Rattle.core_types.specs.Opcodes.{loads, stores, comparisons, bit_counts, binary_ops, sign_extensions}
+use Rattle.core_types.specs.reading.Values.{stored}
 
 -- A signed number, by the number with which it is stored.
 abbrev pub SpellsStored : ℕ → List ℕ → ℕ → Type 0
@@ -111,23 +96,6 @@ abbrev pub IsOpcode : {X : Type 0} → ℕ → List (Option X) → X → ℕ →
 IsOpcode {X} first row x code =
     (place : ℕ) × (slice_get row place ≡ Some (Some x)) × (code ≡ first + place)
 
--- The loads by opcode, from 28 on. If there is none, the opcode is an instruction on floating-point numbers.
-abbrev pub loads : List (Option LoadOp)
-loads =
-    Some (load.Whole W32) ∷ Some (load.Whole W64) ∷ None ∷ None
-    ∷ Some (load.Bits8 W32 Signed) ∷ Some (load.Bits8 W32 Unsigned) ∷
-    Some (load.Bits16 W32 Signed) ∷ Some (load.Bits16 W32 Unsigned)
-    ∷ Some (load.Bits8 W64 Signed) ∷ Some (load.Bits8 W64 Unsigned) ∷
-    Some (load.Bits16 W64 Signed) ∷ Some (load.Bits16 W64 Unsigned)
-    ∷ Some (load.Bits32 Signed) ∷ Some (load.Bits32 Unsigned) ∷ []
-
--- The stores by opcode, from 36 on, in the same way.
-abbrev pub stores : List (Option StoreOp)
-stores =
-    Some (store.Whole W32) ∷ Some (store.Whole W64) ∷ None ∷ None
-    ∷ Some (store.Bits8 W32) ∷ Some (store.Bits16 W32) ∷ Some (store.Bits8 W64) ∷
-    Some (store.Bits16 W64) ∷ Some store.Bits32 ∷ []
-
 -- The alignment, and the offset.
 abbrev pub SpellsMemArg : List ℕ → MemArg → Type 0
 SpellsMemArg bytes m = SpellsBoth (SpellsUnsigned 32) (SpellsUnsigned 32) bytes m.align m.offset
@@ -145,20 +113,6 @@ SpellsMemory bytes (memory.Init segment) =
 SpellsMemory bytes (memory.DataDrop segment) = SpellsPrefixed 9 SpellsIndex bytes segment
 SpellsMemory bytes memory.Copy = SpellsPrefixed 10 (SpellsExactly (0x00 ∷ 0x00 ∷ [])) bytes tt
 SpellsMemory bytes memory.Fill = SpellsPrefixed 11 (SpellsExactly (0x00 ∷ [])) bytes tt
-
--- Numeric instructions without an immediate, by opcode from 45 on: first the tests and comparisons of each width.
-abbrev pub comparisons : List Comparison
-comparisons = Eq ∷ Ne ∷ LtS ∷ LtU ∷ GtS ∷ GtU ∷ LeS ∷ LeU ∷ GeS ∷ GeU ∷ []
-
-abbrev pub bit_counts : List UnaryOp
-bit_counts = Clz ∷ Ctz ∷ Popcnt ∷ []
-
-abbrev pub binary_ops : List BinaryOp
-binary_ops = Add ∷ Sub ∷ Mul ∷ DivS ∷ DivU ∷ RemS ∷ RemU ∷ And ∷ Or ∷ Xor ∷ Shl ∷ ShrS ∷ ShrU ∷
-    Rotl ∷ Rotr ∷ []
-
-abbrev pub sign_extensions : List UnaryOp
-sign_extensions = Extend8S ∷ Extend16S ∷ []
 
 -- One byte, that of x in a row of opcodes from the first on.
 abbrev pub IsInRow : {X : Type 0} → ℕ → List X → X → List ℕ → Type 0

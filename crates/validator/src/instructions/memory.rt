@@ -1,5 +1,4 @@
 ghost use Rattle.std.specs.Prelude.{IfNone, IfSome, IsTrue, List, [], ◌^◌, ◌↔◌, ◌∷◌, ◌≡◌, ◌≤◌};
-ghost use Rattle.core_types.specs.Expressions.{load_at, store_at};
 ghost use Rattle.core_types.specs.declared.op.MemoryOp.TheVariants as memory_op;
 ghost use Rattle.core_types.specs.declared.op.Op.TheVariants as flat;
 ghost use Rattle.core_types.specs.declared.op.PlainOp.TheVariants as plain;
@@ -13,7 +12,7 @@ ghost use Rattle.validator.specs.Steps.{Steps};
 use crate::context::{BodyContext, has_data, memory_type};
 use crate::control_frames::Stacks;
 use crate::errors::Fault;
-use crate::instructions::{apply_some, apply_unary};
+use crate::instructions::{apply_some, apply_taking_two, apply_unary};
 use crate::types::{
     InstructionType, integer_type, once, over_i32, takes_gives, takes_i32_gives, twice,
 };
@@ -101,6 +100,20 @@ fn type_of_load(
     Some(takes_i32_gives(&[], once(ty)))
 }
 
+// Returns the type of the integer that a store takes, if the store is valid. Under the integer, it takes an i32.
+fn stored_type(context: &BodyContext<'_>, store: StoreOp, argument: MemArg) -> Option<ValType>
+    ensures some { IfSome result (λ t. (labels : List (List AnyType)) → IsTypeOf context.now labels
+        (plain.Memory (memory_op.Store store argument)) (function_type (I32 ∷ t ∷ []) [])) }
+    ensures none { IfNone result ((labels : List (List AnyType)) → HasNoType context.now labels
+        (plain.Memory (memory_op.Store store argument))) }
+{
+    let _ = memory_type(context)?;
+    if !is_aligned(argument.align, store_exponent(store)) {
+        return None;
+    }
+    Some(store_type(store))
+}
+
 fn type_of_store(
     context: &BodyContext<'_>,
     store: StoreOp,
@@ -108,11 +121,8 @@ fn type_of_store(
 ) -> Option<InstructionType<'static>>
     ensures { HasTypeOf context.now (plain.Memory (memory_op.Store store argument)) result }
 {
-    let _ = memory_type(context)?;
-    if !is_aligned(argument.align, store_exponent(store)) {
-        return None;
-    }
-    Some(takes_gives(over_i32(store_type(store)), &[]))
+    let ty = stored_type(context, store, argument)?;
+    Some(takes_gives(over_i32(ty), &[]))
 }
 
 fn type_of_memory_init(context: &BodyContext<'_>, segment: u32) -> Option<InstructionType<'static>>
@@ -150,6 +160,40 @@ fn type_of_memory(context: &BodyContext<'_>, op: MemoryOp) -> Option<Instruction
     }
 }
 
+// Steps over a load.
+#[inline(always)]
+fn step_load(
+    context: &BodyContext<'_>,
+    stacks: &mut Stacks<'_>,
+    load: LoadOp,
+    argument: MemArg,
+) -> Result<(), Fault>
+    ensures { Steps context.now stacks.old stacks.new
+        (flat.Plain (plain.Memory (memory_op.Load load argument))) result }
+{
+    let Some(ty) = loaded_type(context, load, argument) else {
+        return Err(Fault::Invalid);
+    };
+    apply_unary(stacks, ValType::I32, ty)
+}
+
+// Steps over a store.
+#[inline(always)]
+fn step_store(
+    context: &BodyContext<'_>,
+    stacks: &mut Stacks<'_>,
+    store: StoreOp,
+    argument: MemArg,
+) -> Result<(), Fault>
+    ensures { Steps context.now stacks.old stacks.new
+        (flat.Plain (plain.Memory (memory_op.Store store argument))) result }
+{
+    let Some(ty) = stored_type(context, store, argument) else {
+        return Err(Fault::Invalid);
+    };
+    apply_taking_two(stacks, ValType::I32, ty)
+}
+
 // Steps over an instruction on the memory or a data segment.
 #[inline(always)]
 pub fn step_memory(
@@ -159,41 +203,9 @@ pub fn step_memory(
 ) -> Result<(), Fault>
     ensures { Steps context.now stacks.old stacks.new (flat.Plain (plain.Memory op)) result }
 {
-    apply_some(stacks, &type_of_memory(context, op))
-}
-
-// Steps over a load with an alignment of eight bits.
-#[inline(always)]
-pub fn step_load(
-    context: &BodyContext<'_>,
-    stacks: &mut Stacks<'_>,
-    load: LoadOp,
-    align: u8,
-    offset: u32,
-) -> Result<(), Fault>
-    ensures { Steps context.now stacks.old stacks.new (load_at load align offset) result }
-{
-    let align = u32::from(align);
-    let Some(ty) = loaded_type(context, load, MemArg { align, offset }) else {
-        return Err(Fault::Invalid);
-    };
-    apply_unary(stacks, ValType::I32, ty)
-}
-
-// Steps over a store with an alignment of eight bits.
-#[inline(always)]
-pub fn step_store(
-    context: &BodyContext<'_>,
-    stacks: &mut Stacks<'_>,
-    store: StoreOp,
-    align: u8,
-    offset: u32,
-) -> Result<(), Fault>
-    ensures { Steps context.now stacks.old stacks.new (store_at store align offset) result }
-{
-    let align = u32::from(align);
-    apply_some(
-        stacks,
-        &type_of_store(context, store, MemArg { align, offset }),
-    )
+    match op {
+        MemoryOp::Load(load, argument) => step_load(context, stacks, load, argument),
+        MemoryOp::Store(store, argument) => step_store(context, stacks, store, argument),
+        _ => apply_some(stacks, &type_of_memory(context, op)),
+    }
 }

@@ -10,7 +10,7 @@ ghost use Rattle.validator.specs.Steps.{Steps};
 use crate::context::{BodyContext, global_type, local_type};
 use crate::control_frames::Stacks;
 use crate::errors::Fault;
-use crate::instructions::{apply_nullary, apply_some};
+use crate::instructions::{apply_nullary, apply_some, apply_taking_one, apply_unary};
 use crate::types::{InstructionType, once, takes_gives};
 use core_types::{Mutability, ValType, VariableOp};
 
@@ -38,7 +38,7 @@ fn read_type(context: &BodyContext<'_>, index: u32) -> Option<ValType>
 
 // Steps over a `local.get`.
 #[inline(always)]
-fn step_local_get(
+pub fn step_local_get(
     context: &BodyContext<'_>,
     stacks: &mut Stacks<'_>,
     index: u32,
@@ -52,7 +52,62 @@ fn step_local_get(
     apply_nullary(stacks, ty)
 }
 
+// Returns the type of the operand that `local.set` takes, if the local exists.
+#[inline(always)]
+fn set_type(context: &BodyContext<'_>, index: u32) -> Option<ValType>
+    ensures some { IfSome result (λ t. (labels : List (List AnyType)) → IsTypeOf context.now labels
+        (plain.Variable (variable_op.LocalSet index)) (function_type (t ∷ []) [])) }
+    ensures none { IfNone result ((labels : List (List AnyType)) → HasNoType context.now labels
+        (plain.Variable (variable_op.LocalSet index))) }
+{
+    local_type(context, index)
+}
+
+// Steps over a `local.set`.
+#[inline(always)]
+fn step_local_set(
+    context: &BodyContext<'_>,
+    stacks: &mut Stacks<'_>,
+    index: u32,
+) -> Result<(), Fault>
+    ensures { Steps context.now stacks.old stacks.new
+        (flat.Plain (plain.Variable (variable_op.LocalSet index))) result }
+{
+    let Some(ty) = set_type(context, index) else {
+        return Err(Fault::Invalid);
+    };
+    apply_taking_one(stacks, ty)
+}
+
+// Returns the type of the operand that `local.tee` takes and gives, if the local exists.
+#[inline(always)]
+fn tee_type(context: &BodyContext<'_>, index: u32) -> Option<ValType>
+    ensures some { IfSome result (λ t. (labels : List (List AnyType)) → IsTypeOf context.now labels
+        (plain.Variable (variable_op.LocalTee index)) (function_type (t ∷ []) (t ∷ []))) }
+    ensures none { IfNone result ((labels : List (List AnyType)) → HasNoType context.now labels
+        (plain.Variable (variable_op.LocalTee index))) }
+{
+    local_type(context, index)
+}
+
+// Steps over a `local.tee`.
+#[inline(always)]
+fn step_local_tee(
+    context: &BodyContext<'_>,
+    stacks: &mut Stacks<'_>,
+    index: u32,
+) -> Result<(), Fault>
+    ensures { Steps context.now stacks.old stacks.new
+        (flat.Plain (plain.Variable (variable_op.LocalTee index))) result }
+{
+    let Some(ty) = tee_type(context, index) else {
+        return Err(Fault::Invalid);
+    };
+    apply_unary(stacks, ty, ty)
+}
+
 // Returns the type of an instruction on a local or a global.
+#[inline(always)]
 fn type_of_variable(context: &BodyContext<'_>, op: VariableOp) -> Option<InstructionType<'static>>
     ensures { HasTypeOf context.now (plain.Variable op) result }
 {
@@ -62,11 +117,11 @@ fn type_of_variable(context: &BodyContext<'_>, op: VariableOp) -> Option<Instruc
             Some(takes_gives(&[], once(ty)))
         }
         VariableOp::LocalSet(index) => {
-            let ty = local_type(context, index)?;
+            let ty = set_type(context, index)?;
             Some(takes_gives(once(ty), &[]))
         }
         VariableOp::LocalTee(index) => {
-            let ty = local_type(context, index)?;
+            let ty = tee_type(context, index)?;
             Some(takes_gives(once(ty), once(ty)))
         }
         VariableOp::GlobalGet(index) => {
@@ -86,8 +141,10 @@ pub fn step_variable(
 ) -> Result<(), Fault>
     ensures { Steps context.now stacks.old stacks.new (flat.Plain (plain.Variable op)) result }
 {
-    if let VariableOp::LocalGet(index) = op {
-        return step_local_get(context, stacks, index);
+    match op {
+        VariableOp::LocalGet(index) => step_local_get(context, stacks, index),
+        VariableOp::LocalSet(index) => step_local_set(context, stacks, index),
+        VariableOp::LocalTee(index) => step_local_tee(context, stacks, index),
+        _ => apply_some(stacks, &type_of_variable(context, op)),
     }
-    apply_some(stacks, &type_of_variable(context, op))
 }

@@ -6,7 +6,7 @@ use Rattle.core_types.specs.declared.op.Op.TheVariants.{Plain}
 use Rattle.core_types.specs.declared.op.PlainOp.TheVariants.{Control}
 use Rattle.meaning.specs.binary.Instructions.{SpellsControl}
 use Rattle.meaning.specs.binary.Values.{SpellsByte}
-use Rattle.binary.specs.Instructions.{control_at, group_at, operation_at, plain_at}
+use Rattle.core_types.specs.reading.Instructions.{control_at, group_at, operation_at, plain_at}
 use Rattle.binary.proofs.exactness.Choices.{IsFront, SoundCases, at_byte, bare_sound, case_sound, no_case_sound, tag_sound}
 use Rattle.binary.proofs.exactness.Values.{index_reader}
 use Rattle.binary.proofs.exactness.instructions.Opcodes.{two_indices_reader}

@@ -11,11 +11,12 @@ use Rattle.core_types.specs.declared.op.Op.TheVariants.{Plain}
 use Rattle.core_types.specs.declared.op.PlainOp.TheVariants.{Memory}
 use Rattle.core_types.specs.declared.op.StoreOp.{StoreOp}
 use Rattle.meaning.specs.binary.Conventions.{SpellsPair, SpellsTagged}
-use Rattle.meaning.specs.binary.Instructions.{IsOpcode, SpellsExactly, SpellsMemArg, SpellsMemory, loads, stores}
+use Rattle.core_types.specs.Opcodes.{loads, stores}
+use Rattle.meaning.specs.binary.Instructions.{IsOpcode, SpellsExactly, SpellsMemArg, SpellsMemory}
 use Rattle.meaning.specs.binary.Values.{SpellsByte, SpellsIndex, SpellsUnsigned}
-use Rattle.binary.specs.Conventions.{mapped_at, mapped_case, pair_at, ◌>>=◌}
-use Rattle.binary.specs.Instructions.{group_at, in_row, load_at, mem_arg, mem_arg_at, memory_at, of_memory, operation_at, plain_at, prefixed_at, prefixed_memory_at, store_at}
-use Rattle.binary.specs.Values.{expected_at, index_at}
+use Rattle.core_types.specs.reading.Conventions.{mapped_at, mapped_case, pair_at, ◌>>=◌}
+use Rattle.core_types.specs.reading.Instructions.{group_at, in_row, load_at, mem_arg, mem_arg_at, memory_at, of_memory, operation_at, plain_at, prefixed_at, prefixed_memory_at, store_at}
+use Rattle.core_types.specs.reading.Values.{expected_at, index_at}
 use Rattle.binary.proofs.exactness.Choices.{IsFront, SoundCase, SoundCases, at_byte, behind_sound, case_sound, mapped_reader, no_case_sound, pair_reader, tag_sound, up_to_sound}
 use Rattle.binary.proofs.exactness.Integers.{unsigned_reader}
 use Rattle.binary.proofs.exactness.Readers.{IsReader, bind_some}

@@ -9,9 +9,10 @@ use Rattle.core_types.specs.declared.op.NumericOp.TheVariants.{Binary, Compare, 
 use Rattle.core_types.specs.declared.op.Op.TheVariants.{Plain}
 use Rattle.core_types.specs.declared.op.PlainOp.TheVariants.{Numeric}
 use Rattle.core_types.specs.declared.op.Width.TheVariants.{W32, W64}
-use Rattle.meaning.specs.binary.Instructions.{IsInRow, IsOpcode, SpellsNumeric, binary_ops, bit_counts, comparisons, sign_extensions}
+use Rattle.core_types.specs.Opcodes.{binary_ops, bit_counts, comparisons, sign_extensions}
+use Rattle.meaning.specs.binary.Instructions.{IsInRow, IsOpcode, SpellsNumeric}
 use Rattle.meaning.specs.binary.Values.{SpellsByte}
-use Rattle.binary.specs.Instructions.{group_at, numeric_at, numeric_of, numeric_row, numerics, operation_at}
+use Rattle.core_types.specs.reading.Instructions.{group_at, numeric_at, numeric_of, numeric_row, numerics, operation_at}
 use Rattle.binary.proofs.exactness.Choices.{IsFront, SoundCases, at_byte}
 use Rattle.binary.proofs.exactness.Readers.{bind_some, found, found-injective}
 use Rattle.binary.proofs.exactness.instructions.Opcodes.{group_reached}

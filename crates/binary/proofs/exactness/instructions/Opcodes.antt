@@ -6,8 +6,8 @@ use Rattle.core_types.specs.declared.op.Op.TheVariants.{Plain}
 use Rattle.core_types.specs.declared.op.PlainOp.{PlainOp}
 use Rattle.meaning.specs.binary.Instructions.{SpellsPrefixed, SpellsTwoIndices}
 use Rattle.meaning.specs.binary.Values.{SpellsByte, SpellsUnsigned}
-use Rattle.binary.specs.Conventions.{Reading, mapped_at, mapped_case}
-use Rattle.binary.specs.Instructions.{group_at, operation_at, plain_at, prefixed_at, two_indices_at}
+use Rattle.core_types.specs.reading.Conventions.{Reading, mapped_at, mapped_case}
+use Rattle.core_types.specs.reading.Instructions.{group_at, operation_at, plain_at, prefixed_at, two_indices_at}
 use Rattle.binary.proofs.exactness.Choices.{IsFront, SoundCase, at_byte, behind_sound, pair_reader}
 use Rattle.binary.proofs.exactness.Integers.{unsigned_reader}
 use Rattle.binary.proofs.exactness.Readers.{IsReader, Spelling}

@@ -5,13 +5,13 @@ use Rattle.core_types.specs.declared.op.Op.{Op}
 use Rattle.core_types.specs.declared.op.Op.TheVariants.{Block, Else, End, If, Loop, Plain}
 use Rattle.core_types.specs.declared.op.PlainOp.TheVariants.{BrTable, Control, I32Const, I64Const, Memory, Numeric, Parametric, Reference, SelectTyped, Table, Variable}
 use Rattle.meaning.specs.binary.Conventions.{SpellsTagged}
-use Rattle.meaning.specs.binary.Instructions.{SpellsBranchTable, SpellsPlain, SpellsStored, stored}
+use Rattle.meaning.specs.binary.Instructions.{SpellsBranchTable, SpellsPlain, SpellsStored}
 use Rattle.meaning.specs.binary.Types.{SpellsBlockType, SpellsValType}
 use Rattle.meaning.specs.binary.Values.{SpellsByte, SpellsIndex, SpellsUnsigned, SpellsVector}
-use Rattle.binary.specs.Conventions.{chosen_at}
-use Rattle.binary.specs.Instructions.{branch_table, branch_table_at, group_at, op_at, operation_at, plain_at, prefixed_at, stored_at}
-use Rattle.binary.specs.Types.{val_type_at}
-use Rattle.binary.specs.Values.{unsigned_at, vector_at}
+use Rattle.core_types.specs.reading.Conventions.{chosen_at}
+use Rattle.core_types.specs.reading.Instructions.{branch_table, branch_table_at, group_at, op_at, operation_at, plain_at, prefixed_at, stored_at}
+use Rattle.core_types.specs.reading.Types.{val_type_at}
+use Rattle.core_types.specs.reading.Values.{stored, unsigned_at, vector_at}
 use Rattle.binary.proofs.exactness.Choices.{IsFront, SoundCase, SoundCases, at_byte, bare_sound, byte_reader, case_sound, choice_reader, mapped_case_sound}
 use Rattle.binary.proofs.exactness.Choices.{mapped_reader, pair_reader, tag_sound, up_to_sound}
 use Rattle.binary.proofs.exactness.Integers.{signed_reader, unsigned_reader}

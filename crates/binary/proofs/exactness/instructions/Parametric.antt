@@ -6,7 +6,7 @@ use Rattle.core_types.specs.declared.op.ParametricOp.TheVariants.{DropOperand, S
 use Rattle.core_types.specs.declared.op.PlainOp.TheVariants.{Parametric}
 use Rattle.meaning.specs.binary.Instructions.{SpellsParametric}
 use Rattle.meaning.specs.binary.Values.{SpellsByte}
-use Rattle.binary.specs.Instructions.{group_at, operation_at, parametric_at, plain_at}
+use Rattle.core_types.specs.reading.Instructions.{group_at, operation_at, parametric_at, plain_at}
 use Rattle.binary.proofs.exactness.Choices.{IsFront, SoundCases, at_byte, bare_sound, case_sound, no_case_sound}
 
 pub parametric_sound : SoundCases SpellsByte SpellsParametric parametric_at

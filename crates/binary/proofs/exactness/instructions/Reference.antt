@@ -6,7 +6,7 @@ use Rattle.core_types.specs.declared.op.ReferenceOp.{ReferenceOp}
 use Rattle.core_types.specs.declared.op.ReferenceOp.TheVariants as reference_op
 use Rattle.meaning.specs.binary.Instructions.{SpellsReference}
 use Rattle.meaning.specs.binary.Values.{SpellsByte}
-use Rattle.binary.specs.Instructions.{group_at, operation_at, plain_at, reference_at}
+use Rattle.core_types.specs.reading.Instructions.{group_at, operation_at, plain_at, reference_at}
 use Rattle.binary.proofs.exactness.Choices.{IsFront, SoundCases, at_byte, bare_sound, case_sound, no_case_sound, tag_sound}
 use Rattle.binary.proofs.exactness.Types.{ref_type_reader}
 use Rattle.binary.proofs.exactness.Values.{index_reader}

@@ -3,8 +3,8 @@ use Rattle.std.proofs.Common.{List, ap, arith, leb, refl, ℕ, ◌-◌, ◌∙�
 use Rattle.std.specs.Prelude.{Option, Some, slice_get}
 use Rattle.std.proofs.lemmas.Bool.{le-leb, leb-true}
 use Rattle.meaning.specs.binary.Instructions.{IsOpcode}
-use Rattle.binary.specs.Conventions.{◌>>=◌}
-use Rattle.binary.specs.Instructions.{in_row}
+use Rattle.core_types.specs.reading.Conventions.{◌>>=◌}
+use Rattle.core_types.specs.reading.Instructions.{in_row}
 use Rattle.binary.proofs.exactness.Readers.{bind_some, if_found}
 
 pub in_row_sound : {X : Type 0} (first : ℕ) (row : List (Option X)) (code : ℕ) (x : X)

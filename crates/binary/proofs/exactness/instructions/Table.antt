@@ -6,7 +6,7 @@ use Rattle.core_types.specs.declared.op.TableOp.{TableOp}
 use Rattle.core_types.specs.declared.op.TableOp.TheVariants as table
 use Rattle.meaning.specs.binary.Instructions.{SpellsTable}
 use Rattle.meaning.specs.binary.Values.{SpellsByte, SpellsUnsigned}
-use Rattle.binary.specs.Instructions.{group_at, operation_at, plain_at, prefixed_at, prefixed_table_at, table_at}
+use Rattle.core_types.specs.reading.Instructions.{group_at, operation_at, plain_at, prefixed_at, prefixed_table_at, table_at}
 use Rattle.binary.proofs.exactness.Choices.{IsFront, SoundCases, at_byte, case_sound, no_case_sound, tag_sound}
 use Rattle.binary.proofs.exactness.Values.{index_reader}
 use Rattle.binary.proofs.exactness.instructions.Opcodes.{prefix_sound, prefixed_complete, two_indices_reader}

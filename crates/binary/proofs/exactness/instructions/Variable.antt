@@ -6,7 +6,7 @@ use Rattle.core_types.specs.declared.op.VariableOp.{VariableOp}
 use Rattle.core_types.specs.declared.op.VariableOp.TheVariants.{GlobalGet, GlobalSet, LocalGet, LocalSet, LocalTee}
 use Rattle.meaning.specs.binary.Instructions.{SpellsVariable}
 use Rattle.meaning.specs.binary.Values.{SpellsByte}
-use Rattle.binary.specs.Instructions.{group_at, operation_at, plain_at, variable_at}
+use Rattle.core_types.specs.reading.Instructions.{group_at, operation_at, plain_at, variable_at}
 use Rattle.binary.proofs.exactness.Choices.{IsFront, SoundCases, at_byte, case_sound, no_case_sound, tag_sound}
 use Rattle.binary.proofs.exactness.Values.{index_reader}
 

@@ -9,9 +9,9 @@ use Rattle.core_types.specs.declared.types.ValType.{ValType}
 use Rattle.meaning.specs.binary.Conventions.{Reads, SpellsEach}
 use Rattle.meaning.specs.binary.Modules.{SpellsCode, SpellsFunctionContent, SpellsLocalGroup, SpellsLocals, types_of}
 use Rattle.meaning.specs.binary.Values.{SpellsSized, SpellsUnsigned, SpellsVector}
-use Rattle.binary.specs.Conventions.{◌>>=◌}
+use Rattle.core_types.specs.reading.Conventions.{◌>>=◌}
 use Rattle.binary.specs.Sections.{code_at, codes_at, function_content_at, functions_at, groups_at, local_group_at, locals_at}
-use Rattle.binary.specs.Values.{unsigned_at}
+use Rattle.core_types.specs.reading.Values.{unsigned_at}
 use Rattle.binary.proofs.exactness.Expressions.{expression_reader}
 use Rattle.binary.proofs.exactness.Integers.{unsigned_reader}
 use Rattle.binary.proofs.exactness.Readers.{IsReader, bind_some, both_complete, both_sound, found, found-injective, if_found, reads_as, whole_reader}

@@ -5,9 +5,10 @@ use Rattle.std.proofs.lemmas.List.{nil_from_length}
 use Rattle.meaning.specs.binary.Conventions.{Reads, SpellsEach}
 use Rattle.meaning.specs.binary.Modules.{IsCustomSections, SpellsCustom, SpellsSection}
 use Rattle.meaning.specs.binary.Values.{SpellsSized}
-use Rattle.binary.specs.Conventions.{◌>>=◌}
+use Rattle.core_types.specs.reading.Conventions.{◌>>=◌}
 use Rattle.binary.specs.Sections.{after_customs, custom_at, customs_at}
-use Rattle.binary.specs.Values.{begins_with, name_at, part_at}
+use Rattle.core_types.specs.reading.Values.{begins_with}
+use Rattle.binary.specs.Values.{name_at, part_at}
 use Rattle.binary.proofs.exactness.Readers.{begins, bind_some, chosen, found, found-injective, tagged}
 use Rattle.binary.proofs.exactness.Values.{name_reader, part_reader}
 

@@ -6,7 +6,7 @@ use Rattle.meaning.specs.binary.Conventions.{SpellsPair}
 use Rattle.meaning.specs.binary.Instructions.{SpellsFlat}
 use Rattle.meaning.specs.binary.Modules.{SpellsBytes, SpellsData, data_0, data_1, data_2, data_segment}
 use Rattle.meaning.specs.binary.Values.{SpellsIndex, SpellsUnsigned}
-use Rattle.binary.specs.Conventions.{pair_at}
+use Rattle.core_types.specs.reading.Conventions.{pair_at}
 use Rattle.binary.specs.Expressions.{expression_at}
 use Rattle.binary.specs.Sections.{data_at, data_form_at, target_at}
 use Rattle.binary.specs.Values.{part_at}

@@ -8,10 +8,10 @@ use Rattle.meaning.specs.binary.Conventions.{SpellsPair}
 use Rattle.meaning.specs.binary.Instructions.{SpellsFlat}
 use Rattle.meaning.specs.binary.Modules.{SpellsElement, SpellsFunctions, SpellsReferences, element, form_0, form_1, form_2, form_3, form_4, form_5, form_6, form_7}
 use Rattle.meaning.specs.binary.Values.{SpellsIndex, SpellsUnsigned, SpellsVector}
-use Rattle.binary.specs.Conventions.{pair_at}
+use Rattle.core_types.specs.reading.Conventions.{pair_at}
 use Rattle.binary.specs.Expressions.{expression_at}
 use Rattle.binary.specs.Sections.{element_at, element_form_at, expressions_form_at, functions_form_at, kind_functions_at, references_at, target_at}
-use Rattle.binary.specs.Values.{index_at, vector_at}
+use Rattle.core_types.specs.reading.Values.{index_at, vector_at}
 use Rattle.binary.proofs.exactness.Choices.{IsFront, SoundCases, at_byte, at_number, byte_reader, case_sound, choice_reader, no_case_sound, pair_reader, tag_sound, up_to_sound}
 use Rattle.binary.proofs.exactness.Expressions.{expression_reader}
 use Rattle.binary.proofs.exactness.Integers.{unsigned_reader}

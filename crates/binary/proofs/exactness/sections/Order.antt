@@ -7,10 +7,11 @@ use Rattle.core_types.specs.declared.module.Func.{Func}
 use Rattle.meaning.specs.binary.Conventions.{SpellsTagged}
 use Rattle.meaning.specs.binary.Modules.{HasValue, HasVector, IsCustomSections, SpellsCode, ◌▷◌}
 use Rattle.meaning.specs.binary.Values.{SpellsSized, SpellsVector}
-use Rattle.binary.specs.Conventions.{Reading, mapped_at, ◌>>=◌}
+use Rattle.core_types.specs.reading.Conventions.{Reading, mapped_at, ◌>>=◌}
 use Rattle.binary.specs.Modules.{then_at}
 use Rattle.binary.specs.Sections.{after_customs, end_at, functions_at, section_at}
-use Rattle.binary.specs.Values.{begins_with, sized_at, vector_at}
+use Rattle.core_types.specs.reading.Values.{begins_with, vector_at}
+use Rattle.binary.specs.Values.{sized_at}
 use Rattle.binary.proofs.exactness.Choices.{mapped_reader}
 use Rattle.binary.proofs.exactness.Readers.{IsReader, Spelling, begins, bind_some, chosen, found, found-injective, if_some, tagged, whole_reader}
 use Rattle.binary.proofs.exactness.Values.{sized_reader, vector_reader}

@@ -4,7 +4,7 @@ use Rattle.meaning.specs.binary.Conventions.{SpellsPair}
 use Rattle.meaning.specs.binary.Instructions.{SpellsFlat}
 use Rattle.meaning.specs.binary.Modules.{SpellsForm}
 use Rattle.meaning.specs.binary.Values.{SpellsIndex, SpellsUnsigned}
-use Rattle.binary.specs.Conventions.{Reading, mapped_at}
+use Rattle.core_types.specs.reading.Conventions.{Reading, mapped_at}
 use Rattle.binary.specs.Sections.{target_at}
 use Rattle.binary.proofs.exactness.Choices.{SoundCase, behind_sound, pair_reader}
 use Rattle.binary.proofs.exactness.Expressions.{expression_reader}

@@ -1,5 +1,5 @@
 use Rattle.std.proofs.Common.{◌≡◌, ◌-◌, []}
-use Rattle.binary.specs.Values.{each_at}
+use Rattle.core_types.specs.reading.Values.{each_at}
 use Rattle.binary.proofs.values.read_each.Given as goal
 
 -- the rest of the reading gives what the whole reading gives

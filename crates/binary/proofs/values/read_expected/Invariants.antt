@@ -1,5 +1,5 @@
 use Rattle.std.proofs.Common.{◌≡◌, drop}
-use Rattle.binary.specs.Values.{expected_at}
+use Rattle.core_types.specs.reading.Values.{expected_at}
 use Rattle.binary.proofs.values.read_expected.Given as goal
 
 -- the rest of the reading gives what the whole reading gives

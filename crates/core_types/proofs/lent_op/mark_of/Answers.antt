@@ -1,6 +1,6 @@
 use denote.Ref.{Bor}
 use Rattle.core_types.specs.declared.op.Op.{Op}
-use Rattle.core_types.proofs.StoredOps.{plain_unless_mark}
+use Rattle.core_types.proofs.Marks.{plain_unless_mark}
 use Rattle.core_types.proofs.lent_op.mark_of.Goals as goal
 
 pub returns-in_default-clause-none : goal.returns-in_default-clause-none

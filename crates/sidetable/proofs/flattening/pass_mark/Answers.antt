@@ -1,16 +1,16 @@
-use Rattle.std.proofs.Common.{◌+◌, drop}
-use Rattle.std.proofs.lemmas.Result.{on_ok_weaker}
-use Rattle.core_types.specs.Expressions.{mark_op}
-use Rattle.sidetable.proofs.PlainOps.{drop_at}
 use Rattle.sidetable.proofs.flattening.pass_mark.Goals as goal
 
-pub step_mark-requires : goal.step_mark-requires
-step_mark-requires c =
-    let (before, opened) = c.requires.can in
-    let here = drop_at c.args.code.now c.args.position (mark_op c.in-Some.mark) c.requires.within (rw c.in-Some.ensures.some at c.get.ensures) in
-    (drop (c.args.position + 1) c.args.code.now, (before, rw here at opened))
+pub returns-in-Block : goal.returns-in-Block
+returns-in-Block c = rw c.in-Block.is c.step_block.ensures
 
-pub returns : goal.returns
-returns c =
-    let here = drop_at c.args.code.now c.args.position (mark_op c.in-Some.mark) c.requires.within (rw c.in-Some.ensures.some at c.get.ensures) in
-    rw here (on_ok_weaker c.step_mark.result (λ next. next (drop (c.args.position + 1) c.args.code.now)) c.step_mark.ensures)
+pub returns-in-Loop : goal.returns-in-Loop
+returns-in-Loop c = rw c.in-Loop.is c.step_loop.ensures
+
+pub returns-in-If : goal.returns-in-If
+returns-in-If c = rw c.in-If.is c.step_if.ensures
+
+pub returns-in-Else : goal.returns-in-Else
+returns-in-Else c = rw c.in-Else.is c.step_else.ensures
+
+pub returns-in-End : goal.returns-in-End
+returns-in-End c = rw c.in-End.is c.step_end.ensures

@@ -1,6 +1,9 @@
 use Rattle.std.proofs.lemmas.Result.{err_from_is_err_and}
 use Rattle.binary.proofs.loops.Code.{codes_continue, codes_end, codes_fail}
-use Rattle.binary.proofs.loops.DataNames.{notes_function}
+use Rattle.std.specs.List.{list_any}
+use Rattle.core_types.specs.declared.module.Func.{Func}
+use Rattle.meaning.specs.binary.Modules.{names_data}
+use Rattle.binary.proofs.loops.DataNames.{noted_last}
 use Rattle.binary.proofs.sections.code.read_codes.Goals as goal
 
 pub returns-in_err-read_code-clause-reads : goal.returns-in_err-read_code-clause-reads
@@ -14,7 +17,7 @@ loop-ty-preserved c = (
   rw c.in_ok-push.ensures.items
       (codes_continue c.args.types.now c.loop-ty.ty-index c.loop-ty.funcs.items _ _ c.loop-ty.invariant.0 c.in_ok-read_code.field-0 _ c.loop-ty-test.true c.in_ok-read_code.ensures.reads),
   rw c.in_ok-push.ensures.items
-      (notes_function c.loop-ty.data_named _ c.in_ok-read_code.field-0 c.loop-ty.funcs.items c.loop-ty.invariant.1 c.in_ok-read_code.ensures.data c.in_ok-read_code.ensures.before),
+      (noted_last (λ (f : Func). list_any names_data f.body) c.args.data_named.now c.loop-ty.data_named _ c.loop-ty.funcs.items c.in_ok-read_code.field-0 c.loop-ty.invariant.1 c.in_ok-read_code.ensures.data),
 )
 
 pub returns-clause-reads : goal.returns-clause-reads

@@ -7,6 +7,6 @@ use Rattle.validator.proofs.instructions.memory.step_load.Goals as goal
 
 pub returns-in_default : goal.returns-in_default
 returns-in_default c =
-    let load = Memory (Load c.args.load (record { align = c.args.align; offset = c.args.offset })) in
-    let none = (rw c.from-align.ensures at c.in_default.ensures.none) (map label_of (control_stack c.args.stacks.now)) in
+    let load = Memory (Load c.args.load c.args.argument) in
+    let none = c.in_default.ensures.none (map label_of (control_stack c.args.stacks.now)) in
     (tt, λ invalid. no_type {lent = c.args.context.now} {old = c.args.stacks.now} load none)

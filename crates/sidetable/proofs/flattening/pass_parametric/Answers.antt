@@ -1,0 +1,11 @@
+use Rattle.std.proofs.lemmas.Result.{on_ok_weaker}
+use Rattle.core_types.specs.declared.op.PlainOp.TheVariants.{Parametric}
+use Rattle.sidetable.specs.Signatures.{signatures_of}
+use Rattle.sidetable.proofs.Passing.{alone-passes}
+use Rattle.sidetable.proofs.flattening.pass_parametric.Goals as goal
+
+pub returns : goal.returns
+returns c =
+    on_ok_weaker c.push_packed.result
+    (alone-passes (signatures_of c.args.s.now) c.args.outermost c.args.f.now c.push_packed.new.f c.pack_parametric.result.op (Parametric c.args.op) c.pack_parametric.result.counts c.pack_parametric.ensures.op c.pack_parametric.ensures.counts)
+    c.push_packed.ensures

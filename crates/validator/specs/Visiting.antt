@@ -1,0 +1,25 @@
+-- What a visitor is shown: the functions of a module in turn, and the operations of each.
+use Rattle.std.specs.Prelude.{◌≡◌, List, Some, [], ◌∷◌, slice_get}
+use Rattle.core_types.specs.declared.module.Func.{Func}
+use Rattle.core_types.specs.declared.op.Op.{Op}
+use Rattle.core_types.specs.declared.types.FuncType.{FuncType}
+
+-- Each of these leads on from where the one before it led to.
+module _ {S A : Type 0} (Leads : S → A → S → Type 0) where
+  abbrev pub InTurn : S → List A → S → Type 0
+  InTurn from [] to = from ≡ to
+  InTurn from (x ∷ xs) to = (next : S) × Leads from x next × InTurn next xs to
+
+-- The first of these operations is shown, the others are left, and another one can be shown.
+module _ {S : Type 0} (IsReady : S → Type 0) (Visits : S → Op → S → Type 0) where
+  abbrev pub IsShownNext : S → (ops others : List Op) → S → Type 0
+  IsShownNext from ops others to =
+      IsReady to × ((op : Op) × (ops ≡ op ∷ others) × Visits from op to)
+
+-- A function is shown, of a module with these types.
+module _ {S : Type 0} (Begins : S → FuncType → Func → S → Type 0) (Visits : S → Op → S → Type 0)
+    (Ends : S → S → Type 0) (types : List FuncType) where
+  abbrev pub IsShownFunction : S → Func → S → Type 0
+  IsShownFunction from f to =
+      (ty : FuncType) × (first : S) × (last : S) × (slice_get types f.ty ≡ Some ty)
+      × Begins from ty f first × InTurn Visits first f.body last × Ends last to
