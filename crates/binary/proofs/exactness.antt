@@ -9,3 +9,4 @@ pub mod Nesting
 pub mod Expressions
 pub mod sections
 pub mod Modules
+pub mod CutBodies

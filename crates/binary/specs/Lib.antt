@@ -1,6 +1,7 @@
 pub mod Conventions
 pub mod Values
 pub mod Types
+pub mod Bodies
 pub mod Expressions
 pub mod Sections
 pub mod Modules

@@ -7,6 +7,7 @@ use Rattle.core_types.specs.declared.module.Func.{Func as Function}
 use Rattle.core_types.specs.declared.module.Global.{Global}
 use Rattle.core_types.specs.declared.module.Import.{Import}
 use Rattle.core_types.specs.declared.module.Module.{Module}
+use Rattle.core_types.specs.declared.op.Op.{Op}
 use Rattle.core_types.specs.declared.types.FuncType.{FuncType}
 use Rattle.core_types.specs.declared.types.Limits.{Limits}
 use Rattle.core_types.specs.declared.types.TableType.{TableType}
@@ -38,13 +39,13 @@ contents_of w =
     }
 
 -- The sections from the start section on, for functions whose types have these indices.
-unfoldable pub contents_at : List ℕ → Reading Contents
-contents_at indices bytes =
+unfoldable pub contents_at : Reading (List Op) → List ℕ → Reading Contents
+contents_at body_at indices bytes =
     mapped_at contents_of
     (then_at (value_section_at 8 (unsigned_at 32)) (λ start.
     then_at (vector_section_at 9 element_at) (λ elements.
     then_at (value_section_at 12 (unsigned_at 32)) (λ count.
-    then_at (code_section_at indices) (λ funcs.
+    then_at (code_section_at body_at indices) (λ funcs.
     then_at (vector_section_at 11 data_at) (λ datas. end_at)))))) bytes
 
 -- The contents of the table, memory, global and export sections, and of those after them, as a record.
@@ -60,23 +61,23 @@ definitions_of w =
     }
 
 -- The sections from the table section on, for functions whose types have these indices.
-unfoldable pub definitions_at : List ℕ → Reading Definitions
-definitions_at indices bytes =
+unfoldable pub definitions_at : Reading (List Op) → List ℕ → Reading Definitions
+definitions_at body_at indices bytes =
     mapped_at definitions_of
     (then_at (vector_section_at 4 table_type_at) (λ tables.
     then_at (vector_section_at 5 limits_at) (λ memories.
     then_at (vector_section_at 6 global_at) (λ globals.
-    then_at (vector_section_at 7 export_at) (λ exports. contents_at indices))))) bytes
+    then_at (vector_section_at 7 export_at) (λ exports. contents_at body_at indices))))) bytes
 
 -- The contents of all sections, in their order: types, imports, type indices of functions, and the others.
 abbrev pub Sections : Type 0
 Sections = List FuncType × (List Import × (List ℕ × Definitions))
 
-unfoldable pub sections_at : Reading Sections
-sections_at bytes =
+unfoldable pub sections_at : Reading (List Op) → Reading Sections
+sections_at body_at bytes =
     (then_at (vector_section_at 1 func_type_at) (λ types.
     then_at (vector_section_at 2 import_at) (λ imports.
-    then_at (vector_section_at 3 (unsigned_at 32)) (λ indices. definitions_at indices)))) bytes
+    then_at (vector_section_at 3 (unsigned_at 32)) (λ indices. definitions_at body_at indices)))) bytes
 
 abbrev pub module_from : List FuncType → List Import → Definitions → Module
 module_from types imports d = record {
@@ -99,8 +100,8 @@ abbrev pub count_of : Sections → Option ℕ
 count_of w = w.1.1.1.contents.count
 
 -- A module, and its data count.
-unfoldable pub module_at : Reading (Module × Option ℕ)
-module_at bytes = do
+unfoldable pub module_at : Reading (List Op) → Reading (Module × Option ℕ)
+module_at body_at bytes = do
   start ← expected_at header bytes
-  sections ← sections_at start.1
+  sections ← sections_at body_at start.1
   Some ((module_of sections.0, count_of sections.0), sections.1)

@@ -1,5 +1,5 @@
 -- Reading sections and their contents.
-use Rattle.std.specs.Prelude.{Bool, List, None, Option, Some, [], drop, if◌then◌else◌, length, nat_lt, replicate, suc, zero, ℕ, ◌++◌, ◌+◌, ◌==◌, ◌^◌, ◌∷◌}
+use Rattle.std.specs.Prelude.{Bool, List, None, Option, Some, [], drop, get_or, if◌then◌else◌, length, nat_lt, replicate, suc, take, zero, ℕ, ◌++◌, ◌+◌, ◌-◌, ◌==◌, ◌^◌, ◌∷◌}
 use Rattle.core_types.specs.declared.module.DataMode.TheVariants as data_mode
 use Rattle.core_types.specs.declared.module.DataSegment.{DataSegment}
 use Rattle.core_types.specs.declared.module.ElementItems.TheVariants.{Expressions, Functions}
@@ -19,6 +19,7 @@ use Rattle.core_types.specs.declared.types.RefType.{RefType}
 use Rattle.core_types.specs.declared.types.RefType.TheVariants.{FuncRef}
 use Rattle.core_types.specs.declared.types.ValType.{ValType}
 use Rattle.meaning.specs.binary.Modules.{data_segment, element}
+use Rattle.core_types.specs.reading.Bodies.{operations_of}
 use Rattle.core_types.specs.reading.Conventions.{Cases, Reading, case_at, chosen_at, mapped_at, no_case, pair_at, up_to, ◌>>=◌}
 use Rattle.binary.specs.Expressions.{expression_at}
 use Rattle.std.specs.List.{list_any}
@@ -48,28 +49,34 @@ locals_at bytes = do
   count ← unsigned_at 32 bytes
   groups_at count.0 [] count.1
 
+-- All bytes but the last, which is an end, as a body.
+unfoldable pub cut_body_at : Reading (List Op)
+cut_body_at bytes =
+    if get_or bytes (length bytes - 1) 0 == 0x0B
+    then Some (operations_of (take (length bytes - 1) bytes), []) else None
+
 -- The locals and the body of a function whose type has this index.
-unfoldable pub function_content_at : ℕ → Reading Function
-function_content_at ty bytes = do
+unfoldable pub function_content_at : Reading (List Op) → ℕ → Reading Function
+function_content_at body_at ty bytes = do
   locals ← locals_at bytes
-  body ← expression_at locals.1
+  body ← body_at locals.1
   Some (record { ty = ty; locals = locals.0; body = body.0 }, body.1)
 
-unfoldable pub code_at : ℕ → Reading Function
-code_at ty bytes = sized_at (function_content_at ty) bytes
+unfoldable pub code_at : Reading (List Op) → ℕ → Reading Function
+code_at body_at ty bytes = sized_at (function_content_at body_at ty) bytes
 
 -- The functions whose types have these indices, after those that were read before.
-unfoldable pub codes_at : List ℕ → List Function → Reading (List Function)
-codes_at [] funcs bytes = Some (funcs, bytes)
-codes_at (ty ∷ types) funcs bytes = do
-  f ← code_at ty bytes
-  codes_at types (funcs ++ f.0 ∷ []) f.1
+unfoldable pub codes_at : Reading (List Op) → List ℕ → List Function → Reading (List Function)
+codes_at body_at [] funcs bytes = Some (funcs, bytes)
+codes_at body_at (ty ∷ types) funcs bytes = do
+  f ← code_at body_at ty bytes
+  codes_at body_at types (funcs ++ f.0 ∷ []) f.1
 
 -- A count, which is that of the indices, and that many functions.
-unfoldable pub functions_at : List ℕ → Reading (List Function)
-functions_at types bytes = do
+unfoldable pub functions_at : Reading (List Op) → List ℕ → Reading (List Function)
+functions_at body_at types bytes = do
   count ← unsigned_at 32 bytes
-  if count.0 == length types then codes_at types [] count.1 else None
+  if count.0 == length types then codes_at body_at types [] count.1 else None
 
 abbrev pub import_desc_case : Cases ImportDesc
 import_desc_case =
@@ -211,9 +218,9 @@ abbrev pub value_section_at : {V : Type 0} → ℕ → Reading V → Reading (Op
 value_section_at id read bytes = section_at id (mapped_at Some read) (Some None) bytes
 
 -- The code section, which may be absent if there are no indices.
-abbrev pub code_section_at : List ℕ → Reading (List Function)
-code_section_at types bytes =
-    section_at 10 (functions_at types) (if length types == 0 then Some [] else None) bytes
+abbrev pub code_section_at : Reading (List Op) → List ℕ → Reading (List Function)
+code_section_at body_at types bytes =
+    section_at 10 (functions_at body_at types) (if length types == 0 then Some [] else None) bytes
 
 -- Custom sections, and then nothing.
 unfoldable pub end_at : Reading (Unit {0})

@@ -1,50 +1,55 @@
 //! The operations of a body, in turn (Binary Format, Code Section).
 
-ghost use Rattle.std.specs.Prelude.{None, Some, [], ◌≡◌, ◌≢◌, ◌≤◌, ◌⊎◌, ◌∷◌, IfOk};
+ghost use Rattle.std.specs.Prelude.{None, Some, [], false, ◌≡◌, ◌≢◌, ◌≤◌, ◌⊎◌};
 ghost use Rattle.core_types.specs.Expressions.{mark_op};
 ghost use Rattle.core_types.specs.declared.op.Op.TheVariants as flat;
 ghost use Rattle.core_types.specs.declared.op.PlainOp.TheVariants as plain;
 ghost use Rattle.core_types.specs.declared.op.VariableOp.TheVariants.{LocalGet};
-ghost use Rattle.core_types.specs.reading.Bodies.{operations_of};
-ghost use Rattle.binary.specs.Errors.{OnRefused};
+ghost use Rattle.core_types.specs.reading.Bodies.{operations_in, operations_of};
+ghost use Rattle.binary.specs.Bodies.{PassesNext};
 ghost use Rattle.binary.specs.Values.{first_byte};
 
 use crate::errors::DecodeError;
 use crate::instructions::{
-    read_control_op, read_i32_const_op, read_local_get_op, read_mark, read_memory_op,
-    read_numeric_op, read_op, read_parametric_op, read_variable_op,
+    is_memory_op_of_data, is_of_data, read_control_op, read_i32_const_op, read_local_get_op,
+    read_mark, read_memory_op, read_numeric_op, read_op, read_parametric_op, read_variable_op,
 };
 use crate::reader::Reader;
 use core_types::{ControlOp, FuncBody, Mark, MemoryOp, NumericOp, Op, ParametricOp, VariableOp};
-use std::alloc::{AllocError, Global};
+use std::alloc::Global;
 use std::marker::Model;
 
-/// A reader of the operations of a body, in turn. Contracts see the bytes that encode those that are left.
+/// A reader of the operations of a body, in turn. Contracts see the bytes that are left, and whether an operation that was read
+/// names a data segment.
+///
+/// # Errors
+///
+/// Its calls fail as `decode` does, if the bytes encode no operation, or with `OutOfMemory`. Offsets are those in the body.
 #[derive(Drop)]
 pub struct BodyReader<'a> {
     alloc: Global,
     reader: Reader<'a>,
+    names_data: bool,
 }
 
 impl<'a> Model for BodyReader<'a> {
-    ghost use Rattle.std.specs.Prelude.{List, Some, ℕ, ◌≡◌};
-    ghost use Rattle.core_types.specs.reading.Bodies.{operations_in, operations_of};
+    ghost use Rattle.binary.specs.Bodies.{Place};
 
-    ghost Value = { List ℕ };
+    ghost Value = { Place };
 
-    ghost view = { λ r. r.reader };
-
-    ghost invariant = { λ r. operations_in r.reader ≡ Some (operations_of r.reader) };
+    ghost view = { λ r. (r.reader, r.names_data) };
 }
 
 impl<'a> BodyReader<'a> {
     /// Returns a reader of all operations of a body.
     pub fn new(alloc: Global, body: &'a FuncBody) -> BodyReader<'a>
-        ensures { operations_of result ≡ body.now }
+        ensures operations { operations_of result.0 ≡ body.now }
+        ensures names_data { result.1 ≡ false }
     {
         BodyReader {
             alloc,
             reader: Reader::new(body.as_bytes()),
+            names_data: false,
         }
     }
 
@@ -56,213 +61,114 @@ impl<'a> BodyReader<'a> {
         BodyReader {
             alloc: self.alloc,
             reader: self.reader.fork(),
+            names_data: self.names_data,
         }
+    }
+
+    /// Returns whether an operation that was read names a data segment.
+    pub fn names_data(&self) -> bool
+        ensures { result ≡ self.now.1 }
+    {
+        self.names_data
     }
 
     /// Returns the opcode of the next operation, if one is left.
     #[inline(always)]
     pub fn opcode(&self) -> Option<u8>
-        ensures code { result ≡ first_byte self.now }
-        ensures none { result ≡ None → operations_of self.now ≡ [] }
+        ensures code { result ≡ first_byte self.now.0 }
+        ensures none { result ≡ None → operations_in self.now.0 ≡ Some [] }
     {
         self.reader.peek()
     }
 
     /// Reads the next operation, a `local.get`, and returns the index of its local.
-    ///
-    /// # Errors
-    ///
-    /// `AllocError` if an allocation fails.
     #[inline(always)]
-    pub fn local_get(&mut self) -> Result<u32, AllocError>
-        requires { first_byte self.old ≡ Some 0x20 }
-        ensures { IfOk result (λ op. operations_of self.old ≡ flat.Plain (plain.Variable (LocalGet op)) ∷ operations_of self.new) }
+    pub fn local_get(&mut self) -> Result<u32, DecodeError>
+        requires { first_byte self.old.0 ≡ Some 0x20 }
+        ensures { PassesNext (λ n. flat.Plain (plain.Variable (LocalGet n))) result self.old self.new }
     {
-        let mut here = self.reader.fork();
-        match read_local_get_op(&mut here) {
-            Ok(op) => {
-                self.reader = here;
-                Ok(op)
-            }
-            Err(error) => Err(alloc_error(error)),
-        }
+        read_local_get_op(&mut self.reader)
     }
 
     /// Reads the next operation, an instruction on a local or a global, which has this opcode.
-    ///
-    /// # Errors
-    ///
-    /// `AllocError` if an allocation fails.
     #[inline(always)]
-    pub fn variable(&mut self, code: u8) -> Result<VariableOp, AllocError>
-        requires opcode { first_byte self.old ≡ Some code }
+    pub fn variable(&mut self, code: u8) -> Result<VariableOp, DecodeError>
+        requires opcode { first_byte self.old.0 ≡ Some code }
         requires group { (0x20 ≤ code) × (code ≤ 0x24) }
-        ensures { IfOk result (λ op. operations_of self.old ≡ flat.Plain (plain.Variable op) ∷ operations_of self.new) }
+        ensures { PassesNext (λ op. flat.Plain (plain.Variable op)) result self.old self.new }
     {
-        let mut here = self.reader.fork();
-        match read_variable_op(&mut here, code) {
-            Ok(op) => {
-                self.reader = here;
-                Ok(op)
-            }
-            Err(error) => Err(alloc_error(error)),
-        }
+        read_variable_op(&mut self.reader, code)
     }
 
     /// Reads the next operation, a load or a store, which has this opcode.
-    ///
-    /// # Errors
-    ///
-    /// `AllocError` if an allocation fails.
     #[inline(always)]
-    pub fn memory(&mut self, code: u8) -> Result<MemoryOp, AllocError>
-        requires opcode { first_byte self.old ≡ Some code }
+    pub fn memory(&mut self, code: u8) -> Result<MemoryOp, DecodeError>
+        requires opcode { first_byte self.old.0 ≡ Some code }
         requires group { (0x28 ≤ code) × (code ≤ 0x3E) }
-        ensures { IfOk result (λ op. operations_of self.old ≡ flat.Plain (plain.Memory op) ∷ operations_of self.new) }
+        ensures { PassesNext (λ op. flat.Plain (plain.Memory op)) result self.old self.new }
     {
-        let mut here = self.reader.fork();
-        match read_memory_op(&mut here, code) {
-            Ok(op) => {
-                self.reader = here;
-                Ok(op)
-            }
-            Err(error) => Err(alloc_error(error)),
-        }
+        let op = read_memory_op(&mut self.reader, code)?;
+        self.names_data |= is_memory_op_of_data(op);
+        Ok(op)
     }
 
     /// Reads the next operation, a branch, a return or a call, which has this opcode.
-    ///
-    /// # Errors
-    ///
-    /// `AllocError` if an allocation fails.
     #[inline(always)]
-    pub fn control(&mut self, code: u8) -> Result<ControlOp, AllocError>
-        requires opcode { first_byte self.old ≡ Some code }
+    pub fn control(&mut self, code: u8) -> Result<ControlOp, DecodeError>
+        requires opcode { first_byte self.old.0 ≡ Some code }
         requires group { ((0x0C ≤ code) × (code ≤ 0x0D)) ⊎ ((0x0F ≤ code) × (code ≤ 0x10)) }
-        ensures { IfOk result (λ op. operations_of self.old ≡ flat.Plain (plain.Control op) ∷ operations_of self.new) }
+        ensures { PassesNext (λ op. flat.Plain (plain.Control op)) result self.old self.new }
     {
-        let mut here = self.reader.fork();
-        match read_control_op(&mut here, code) {
-            Ok(op) => {
-                self.reader = here;
-                Ok(op)
-            }
-            Err(error) => Err(alloc_error(error)),
-        }
+        read_control_op(&mut self.reader, code)
     }
 
     /// Reads the next operation, a numeric instruction without an immediate, which has this opcode.
-    ///
-    /// # Errors
-    ///
-    /// `AllocError` if an allocation fails.
     #[inline(always)]
-    pub fn numeric(&mut self, code: u8) -> Result<NumericOp, AllocError>
-        requires opcode { first_byte self.old ≡ Some code }
+    pub fn numeric(&mut self, code: u8) -> Result<NumericOp, DecodeError>
+        requires opcode { first_byte self.old.0 ≡ Some code }
         requires group { (0x45 ≤ code) × (code ≤ 0xC4) }
-        ensures { IfOk result (λ op. operations_of self.old ≡ flat.Plain (plain.Numeric op) ∷ operations_of self.new) }
+        ensures { PassesNext (λ op. flat.Plain (plain.Numeric op)) result self.old self.new }
     {
-        let mut here = self.reader.fork();
-        match read_numeric_op(&mut here, code) {
-            Ok(op) => {
-                self.reader = here;
-                Ok(op)
-            }
-            Err(error) => Err(alloc_error(error)),
-        }
+        read_numeric_op(&mut self.reader, code)
     }
 
     /// Reads the next operation, a 32-bit constant.
-    ///
-    /// # Errors
-    ///
-    /// `AllocError` if an allocation fails.
     #[inline(always)]
-    pub fn i32_const(&mut self) -> Result<u32, AllocError>
-        requires { first_byte self.old ≡ Some 0x41 }
-        ensures { IfOk result (λ op. operations_of self.old ≡ flat.Plain (plain.I32Const op) ∷ operations_of self.new) }
+    pub fn i32_const(&mut self) -> Result<u32, DecodeError>
+        requires { first_byte self.old.0 ≡ Some 0x41 }
+        ensures { PassesNext (λ n. flat.Plain (plain.I32Const n)) result self.old self.new }
     {
-        let mut here = self.reader.fork();
-        match read_i32_const_op(&mut here) {
-            Ok(op) => {
-                self.reader = here;
-                Ok(op)
-            }
-            Err(error) => Err(alloc_error(error)),
-        }
+        read_i32_const_op(&mut self.reader)
     }
 
     /// Reads the next operation, a parametric instruction without an immediate, which has this opcode.
-    ///
-    /// # Errors
-    ///
-    /// `AllocError` if an allocation fails.
     #[inline(always)]
-    pub fn parametric(&mut self, code: u8) -> Result<ParametricOp, AllocError>
-        requires opcode { first_byte self.old ≡ Some code }
+    pub fn parametric(&mut self, code: u8) -> Result<ParametricOp, DecodeError>
+        requires opcode { first_byte self.old.0 ≡ Some code }
         requires group { (0x1A ≤ code) × (code ≤ 0x1B) }
-        ensures { IfOk result (λ op. operations_of self.old ≡ flat.Plain (plain.Parametric op) ∷ operations_of self.new) }
+        ensures { PassesNext (λ op. flat.Plain (plain.Parametric op)) result self.old self.new }
     {
-        let mut here = self.reader.fork();
-        match read_parametric_op(&mut here, code) {
-            Ok(op) => {
-                self.reader = here;
-                Ok(op)
-            }
-            Err(error) => Err(alloc_error(error)),
-        }
+        read_parametric_op(&mut self.reader, code)
     }
 
     /// Reads the next operation, at which a body begins or ends, and which has this opcode.
-    ///
-    /// # Errors
-    ///
-    /// `AllocError` if an allocation fails.
     #[inline(always)]
-    pub fn mark(&mut self, code: u8) -> Result<Mark, AllocError>
-        requires opcode { first_byte self.old ≡ Some code }
+    pub fn mark(&mut self, code: u8) -> Result<Mark, DecodeError>
+        requires opcode { first_byte self.old.0 ≡ Some code }
         requires group { ((0x02 ≤ code) × (code ≤ 0x05)) ⊎ (code ≡ 0x0B) }
-        ensures { IfOk result (λ op. operations_of self.old ≡ mark_op op ∷ operations_of self.new) }
+        ensures { PassesNext (mark_op) result self.old self.new }
     {
-        let mut here = self.reader.fork();
-        match read_mark(&mut here, code) {
-            Ok(op) => {
-                self.reader = here;
-                Ok(op)
-            }
-            Err(error) => Err(alloc_error(error)),
-        }
+        read_mark(&mut self.reader, code)
     }
 
     /// Reads the next operation.
-    ///
-    /// # Errors
-    ///
-    /// `AllocError` if an allocation fails.
     #[inline(never)]
-    pub fn any(&mut self) -> Result<Op, AllocError>
-        requires { first_byte self.old ≢ None }
-        ensures { IfOk result (λ op. operations_of self.old ≡ op ∷ operations_of self.new) }
+    pub fn any(&mut self) -> Result<Op, DecodeError>
+        requires { first_byte self.old.0 ≢ None }
+        ensures { PassesNext (λ op. op) result self.old self.new }
     {
-        let mut here = self.reader.fork();
-        match read_op(self.alloc, &mut here) {
-            Ok(op) => {
-                self.reader = here;
-                Ok(op)
-            }
-            Err(error) => Err(alloc_error(error)),
-        }
-    }
-}
-
-// Returns the only error of reading an operation that is there.
-fn alloc_error(error: DecodeError) -> AllocError
-    requires { OnRefused error ⊥ }
-{
-    match error {
-        DecodeError::OutOfMemory => AllocError,
-        DecodeError::Malformed(_) => unreachable!(),
-        DecodeError::Unsupported(_) => unreachable!(),
-        DecodeError::Limit => unreachable!(),
+        let op = read_op(self.alloc, &mut self.reader)?;
+        self.names_data |= is_of_data(&op);
+        Ok(op)
     }
 }

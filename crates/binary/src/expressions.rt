@@ -11,12 +11,12 @@ ghost use Rattle.binary.specs.Values.{first_byte};
 
 use crate::errors::DecodeError;
 use crate::instructions::{
-    is_of_data, read_control_op, read_i32_const_op, read_mark, read_memory_op, read_numeric_op,
-    read_op, read_variable_op,
+    is_memory_op_of_data, is_of_data, read_control_op, read_i32_const_op, read_mark,
+    read_memory_op, read_numeric_op, read_op, read_variable_op,
 };
 use crate::reader::Reader;
 use crate::values::Readable;
-use core_types::{Expression, FuncBody, Mark, MemoryOp, Op, Stack};
+use core_types::{Expression, FuncBody, Mark, Op, Stack};
 use std::alloc::{AllocError, Global};
 
 // A body that the decoder has begun and not ended.
@@ -152,7 +152,7 @@ fn skip_operation(
         }
         0x28..=0x3E => {
             let op = read_memory_op(reader, code)?;
-            *data_named |= matches!(op, MemoryOp::Init(_) | MemoryOp::DataDrop(_));
+            *data_named |= is_memory_op_of_data(op);
             Ok(Flow::Continues)
         }
         0x0C | 0x0D | 0x0F | 0x10 => {

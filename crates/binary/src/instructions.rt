@@ -268,12 +268,20 @@ pub fn read_mark(reader: &mut Reader<'_>, code: u8) -> Result<Mark, DecodeError>
     }
 }
 
+// Returns whether an instruction on the memory names a data segment.
+#[inline(always)]
+pub fn is_memory_op_of_data(op: MemoryOp) -> bool
+    ensures { result ≡ names_data (flat.Plain (plain.Memory op)) }
+{
+    matches!(op, MemoryOp::Init(_) | MemoryOp::DataDrop(_))
+}
+
 // Returns whether an operation names a data segment.
 pub fn is_of_data(op: &Op) -> bool
     ensures { result ≡ names_data op.now }
 {
     match op {
-        Op::Plain(PlainOp::Memory(op)) => matches!(op, MemoryOp::Init(_) | MemoryOp::DataDrop(_)),
+        Op::Plain(PlainOp::Memory(op)) => is_memory_op_of_data(*op),
         _ => false,
     }
 }

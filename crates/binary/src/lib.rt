@@ -4,6 +4,7 @@
 mod bodies;
 mod errors;
 mod expressions;
+mod function_bodies;
 mod instructions;
 mod laws;
 mod limits;
@@ -16,4 +17,4 @@ mod values;
 pub use bodies::BodyReader;
 pub use errors::DecodeError;
 pub use laws::bytes_spell_one_module;
-pub use modules::decode;
+pub use modules::{Outline, decode, decode_outline};

@@ -85,6 +85,13 @@ impl<'a> Reader<'a> {
         self.offset += 1;
     }
 
+    // Skips all bytes that are left.
+    pub fn skip_rest(&mut self)
+        ensures { self.new ≡ [] }
+    {
+        self.offset = self.bytes.len();
+    }
+
     // Skips the next byte if it is this one. Returns whether it is.
     #[inline(always)]
     pub fn accept(&mut self, byte: u8) -> bool

@@ -77,11 +77,6 @@ module _ (runs : List LocalRun) (types : List ValType) (ascending : IsAscending 
   ends_with : end_of 0 runs ≡ length types
   ends_with = omega (arith, (length-expanded 0 runs ascending).0, ap length is)
 
-  pub end-last : (run : LocalRun) → Some run ≡ slice_get runs (length runs - 1) → run.end ≡ length types
-  end-last run e =
-      let inside = slice_get_within runs (length runs - 1) run (sym e) in
-      sym (end_of-last 0 runs (length runs - 1) run (omega (arith, inside)) (sym e)) ∙ ends_with
-
   pub IsAscending-added : (len count : ℕ) (ty : ValType) → len ≡ length types → length types + count < 2 ^ 32 → IsAscending 0 (runs ++ added len count ty ∷ [])
   IsAscending-added len count ty e lt = IsAscending-push 0 runs (added len count ty) ascending (omega (arith, ends_with)) (omega arith)
 
@@ -103,8 +98,19 @@ module _ (runs : List LocalRun) (types : List ValType) (ascending : IsAscending 
   pub none_past : (k index : ℕ) → length runs ≤ k → start_of 0 runs k ≤ index → None ≡ slice_get types index
   none_past k index past le = sym (slice_get_past types index (omega (arith, ends_with, start_of-past 0 runs k past)))
 
-pub begins_next : (runs : List LocalRun) (k index : ℕ) (default : LocalRun) → k < length runs → (get_or runs k default).end ≤ index → start_of 0 runs (k + 1) ≤ index
-begins_next runs k index default lt le = rw (add-one, start_of-next 0 runs k (get_or runs k default) (slice_get-get_or runs k default lt)) le
+pub begins_next : (start : ℕ) (runs : List LocalRun) (k index : ℕ) (default : LocalRun) → k < length runs → (get_or runs k default).end ≤ index
+    → start_of start runs (k + 1) ≤ index
+begins_next start runs k index default lt le = rw (add-one, start_of-next start runs k (get_or runs k default) (slice_get-get_or runs k default lt)) le
 
 pub ends_there : (runs : List LocalRun) (k index : ℕ) (default : LocalRun) → k < length runs → index < (get_or runs k default).end → IfSome (slice_get runs k) (λ run. index < run.end)
 ends_there runs k index default lt less = rw (slice_get-get_or runs k default lt) less
+
+-- Runs behind a first one end where the last of them does, or the first one if there are no others.
+module _ (first : LocalRun) (others : List LocalRun) (types : List ValType) (ascending : IsAscending 0 (first ∷ others)) (is : expanded 0 (first ∷ others) ≡ types) where
+  pub ends_behind : (run : LocalRun) → Some run ≡ slice_get others (length others - 1) → run.end ≡ length types
+  ends_behind run e =
+      let inside = slice_get_within others (length others - 1) run (sym e) in
+      sym (end_of-last first.end others (length others - 1) run (omega (arith, inside)) (sym e)) ∙ ends_with (first ∷ others) types ascending is
+
+  pub ends_first : others ≡ [] → first.end ≡ length types
+  ends_first none = ap (λ (runs : List LocalRun). end_of first.end runs) (sym none) ∙ ends_with (first ∷ others) types ascending is

@@ -6,24 +6,26 @@ use crate::locals::LocalRun;
 // At most this many runs are tried in turn, which is faster.
 const FEW_RUNS: usize = 8;
 
-// Returns the index of the first run that ends after the index of a local.
+// Returns the index of the first run that ends after the index of a local. The runs begin at `start`.
 #[inline(never)]
-pub fn run_at(runs: &[LocalRun], index: u32) -> usize
+pub fn run_at(runs: &[LocalRun], start: u32, index: u32) -> usize
+    requires { start ≤ index }
     ensures within { result ≤ length runs.now }
-    ensures begins { start_of 0 runs.now result ≤ index }
+    ensures begins { start_of start runs.now result ≤ index }
     ensures ends { IfSome (slice_get runs.now result) (λ run. index < run.end) }
 {
     if runs.len() <= FEW_RUNS {
-        run_in_turn(runs, index)
+        run_in_turn(runs, start, index)
     } else {
-        run_by_halving(runs, index)
+        run_by_halving(runs, start, index)
     }
 }
 
 // Like `run_at`, by trying each run from the first one on.
-fn run_in_turn(runs: &[LocalRun], index: u32) -> usize
+fn run_in_turn(runs: &[LocalRun], start: u32, index: u32) -> usize
+    requires { start ≤ index }
     ensures within { result ≤ length runs.now }
-    ensures begins { start_of 0 runs.now result ≤ index }
+    ensures begins { start_of start runs.now result ≤ index }
     ensures ends { IfSome (slice_get runs.now result) (λ run. index < run.end) }
 {
     let mut found = 0;
@@ -37,9 +39,10 @@ fn run_in_turn(runs: &[LocalRun], index: u32) -> usize
 }
 
 // Like `run_at`, by binary search.
-fn run_by_halving(runs: &[LocalRun], index: u32) -> usize
+fn run_by_halving(runs: &[LocalRun], start: u32, index: u32) -> usize
+    requires { start ≤ index }
     ensures within { result ≤ length runs.now }
-    ensures begins { start_of 0 runs.now result ≤ index }
+    ensures begins { start_of start runs.now result ≤ index }
     ensures ends { IfSome (slice_get runs.now result) (λ run. index < run.end) }
 {
     let mut low = 0;

@@ -15,20 +15,22 @@ pub struct LocalRun {
 /// The types of a function's locals, kept as runs of one type. Contracts see the list of the types.
 #[derive(Drop)]
 pub struct Locals {
-    runs: Vec<LocalRun>,
+    // The first run, which is empty if there are no locals. Most functions have no other.
+    first: LocalRun,
+    others: Vec<LocalRun>,
 }
 
 impl Model for Locals {
-    ghost use Rattle.std.specs.Prelude.{List};
+    ghost use Rattle.std.specs.Prelude.{List, ◌∷◌};
     ghost use Rattle.core_types.specs.declared.types.ValType.{ValType};
 
     ghost Value = { List ValType };
 
     ghost use Rattle.core_types.specs.LocalRuns.{expanded, IsAscending};
 
-    ghost view = { λ a. expanded 0 a.runs.items };
+    ghost view = { λ a. expanded 0 (a.first ∷ a.others.items) };
 
-    ghost invariant = { λ a. IsAscending 0 a.runs.items };
+    ghost invariant = { λ a. IsAscending 0 (a.first ∷ a.others.items) };
 }
 
 impl Locals {
@@ -37,7 +39,11 @@ impl Locals {
         ensures { result ≡ [] }
     {
         Locals {
-            runs: Vec::new(alloc),
+            first: LocalRun {
+                end: 0,
+                ty: ValType::I32,
+            },
+            others: Vec::new(alloc),
         }
     }
 
@@ -45,9 +51,9 @@ impl Locals {
     pub fn len(&self) -> u32
         ensures { result ≡ length self.now }
     {
-        match self.runs.last() {
+        match self.others.last() {
             Some(run) => run.end,
-            None => 0,
+            None => self.first.end,
         }
     }
 
@@ -57,8 +63,12 @@ impl Locals {
         ensures ok { OnOk result (self.new ≡ self.old ++ replicate count ty) }
         ensures err { OnErr result (self.new ≡ self.old) }
     {
+        if self.others.is_empty() && self.first.end == 0 {
+            self.first = LocalRun { end: count, ty };
+            return Ok(());
+        }
         let end = self.len() + count;
-        self.runs.push(LocalRun { end, ty })?;
+        self.others.push(LocalRun { end, ty })?;
         Ok(())
     }
 
@@ -67,14 +77,12 @@ impl Locals {
     pub fn get(&self, index: u32) -> Option<ValType>
         ensures { result ≡ slice_get self.now index }
     {
-        if let Some(first) = self.runs.first() {
-            if index < first.end {
-                return Some(first.ty);
-            }
+        if index < self.first.end {
+            return Some(self.first.ty);
         }
-        let found = run_at(&self.runs, index);
-        if found < self.runs.len() {
-            Some(self.runs[found].ty)
+        let found = run_at(&self.others, self.first.end, index);
+        if found < self.others.len() {
+            Some(self.others[found].ty)
         } else {
             None
         }

@@ -5,12 +5,13 @@ ghost use Rattle.embed.specs.Causes.{RefusesBytes};
 
 use crate::refusals::Refusal;
 use binary::decode;
+use loading::load;
 use std::alloc::Global;
 use std::rc::Rc;
 use store::LoadedModule;
 
-/// Returns the module that the bytes encode, if it is valid.
-pub fn load_module(alloc: Global, bytes: &[u8]) -> Result<Rc<LoadedModule>, Refusal>
+// Decodes a module, and then validates and flattens it. What refuses it says where and why.
+fn load_in_turn(alloc: Global, bytes: &[u8]) -> Result<Rc<LoadedModule>, Refusal>
     ensures decoded { IfOk result (λ loaded. IsDecoded bytes.now loaded.value.source) }
     ensures valid { IfOk result (λ loaded. IsValid loaded.value.source) }
     ensures refused { IfErr result (λ refusal. RefusesBytes bytes.now refusal) }
@@ -18,4 +19,16 @@ pub fn load_module(alloc: Global, bytes: &[u8]) -> Result<Rc<LoadedModule>, Refu
     let decoded = decode(alloc, bytes)?;
     let loaded = LoadedModule::new(alloc, decoded)?;
     Ok(Rc::new(alloc, loaded)?)
+}
+
+/// Returns the module that the bytes encode, if it is valid.
+pub fn load_module(alloc: Global, bytes: &[u8]) -> Result<Rc<LoadedModule>, Refusal>
+    ensures decoded { IfOk result (λ loaded. IsDecoded bytes.now loaded.value.source) }
+    ensures valid { IfOk result (λ loaded. IsValid loaded.value.source) }
+    ensures refused { IfErr result (λ refusal. RefusesBytes bytes.now refusal) }
+{
+    match load(alloc, bytes)? {
+        Some(loaded) => Ok(Rc::new(alloc, loaded)?),
+        None => load_in_turn(alloc, bytes),
+    }
 }

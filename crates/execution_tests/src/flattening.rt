@@ -2,7 +2,7 @@
 //! above the locals, or the numbers of parameters, locals and results.
 
 use crate::listing::list;
-use crate::modules::decoded_module;
+use crate::modules::{decoded_module, loaded_module};
 use sidetable::{FlatModule, PackedFunction, PackedOp, flatten};
 use std::alloc::{AllocError, Global};
 use std::mem::size_of;
@@ -137,17 +137,33 @@ fn is_flattened(alloc: Global, row: &Row) -> bool {
     }
 }
 
+// The same, if the module is loaded in one reading.
+fn is_loaded(alloc: Global, row: &Row) -> bool {
+    match loaded_module(alloc, row.source) {
+        Some(loaded) => is_last_so(alloc, loaded.flat(), &row.expected) == Ok(true),
+        None => false,
+    }
+}
+
 #[test]
 fn functions_are_flattened(rt: HostRuntime) {
     for row in &ROWS {
-        assert!(rt; is_flattened(rt.alloc(), row), "{}", row.name);
+        assert!(rt;
+            is_flattened(rt.alloc(), row) && is_loaded(rt.alloc(), row),
+            "{}",
+            row.name
+        );
     }
 }
 
 #[test]
 fn tail_calls_are_flattened(rt: HostRuntime) {
     for row in &TAIL_CALLS {
-        assert!(rt; is_flattened(rt.alloc(), row), "{}", row.name);
+        assert!(rt;
+            is_flattened(rt.alloc(), row) && is_loaded(rt.alloc(), row),
+            "{}",
+            row.name
+        );
     }
 }
 

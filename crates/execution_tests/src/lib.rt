@@ -37,6 +37,8 @@ mod numerics;
 #[cfg(test)]
 mod object_runs;
 #[cfg(test)]
+mod one_reading;
+#[cfg(test)]
 mod runs;
 #[cfg(test)]
 mod stores;

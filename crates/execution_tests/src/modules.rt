@@ -6,6 +6,7 @@ use exec::have_hosts;
 use fuel::Meter;
 use hostfunc::HostTable;
 use instantiate::{LinkEnd, LinkRefusal, instantiate};
+use loading::load;
 use std::alloc::Global;
 use std::rc::Rc;
 use store::{LoadedModule, Store};
@@ -31,14 +32,12 @@ pub fn decoded_module(alloc: Global, text: &str) -> Option<Module> {
     decode(alloc, &bytes).ok()
 }
 
-/// Returns the loaded module of a text. Returns none if the text is not a module, or an invalid one.
+/// Returns the module of a text, loaded in one reading. Returns none if the text is not a module, or an invalid one.
 pub fn loaded_module(alloc: Global, text: &str) -> Option<Rc<LoadedModule>> {
-    let Some(decoded) = decoded_module(alloc, text) else {
+    let Ok(bytes) = assemble(alloc, text) else {
         return None;
     };
-    let Ok(loaded) = LoadedModule::new(alloc, decoded) else {
-        return None;
-    };
+    let loaded = load(alloc, &bytes).ok()??;
     Rc::new(alloc, loaded).ok()
 }
 

@@ -149,7 +149,7 @@ fn check_body<'a>(
     }
 }
 
-/// Returns the first fault of a body, if it has one. Returns none, too, for a body whose check takes very long.
+/// Returns the first fault of a body, if it has one. Returns none, too, for a body that is malformed, or whose check takes very long.
 pub fn first_fault(alloc: Global, context: Context<'_>) -> Result<Option<Found>, AllocError> {
     let mut stacks = Stacks::new(alloc);
     let Err(Halt { operation, stop }) = check_body(alloc, context, &mut stacks) else {
@@ -158,6 +158,6 @@ pub fn first_fault(alloc: Global, context: Context<'_>) -> Result<Option<Found>,
     match stop {
         Stop::Fault(fault) => Ok(Some(Found { operation, fault })),
         Stop::OutOfMemory => Err(AllocError),
-        Stop::TooLong => Ok(None),
+        Stop::TooLong | Stop::Malformed => Ok(None),
     }
 }

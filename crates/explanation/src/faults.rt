@@ -1,5 +1,6 @@
 //! What is wrong with an operation.
 
+use binary::DecodeError;
 use std::alloc::AllocError;
 use thiserror::Error;
 
@@ -106,6 +107,8 @@ pub enum Stop {
     OutOfMemory,
     /// The check gives up.
     TooLong,
+    /// The bytes of the body encode no operation.
+    Malformed,
 }
 
 impl From<TypeFault> for Stop {
@@ -117,6 +120,15 @@ impl From<TypeFault> for Stop {
 impl From<AllocError> for Stop {
     fn from(_error: AllocError) -> Stop {
         Stop::OutOfMemory
+    }
+}
+
+impl From<DecodeError> for Stop {
+    fn from(error: DecodeError) -> Stop {
+        match error {
+            DecodeError::OutOfMemory => Stop::OutOfMemory,
+            _ => Stop::Malformed,
+        }
     }
 }
 

@@ -163,8 +163,9 @@ fn first_operation(alloc: Global, decoded: &Module) -> Result<String, AllocError
     if let Some(func) = decoded.funcs.as_slice().first() {
         let mut reader = BodyReader::new(alloc, &func.body);
         if reader.opcode().is_some() {
-            let op = reader.any()?;
-            print_operation(&mut text, lent(&op))?;
+            if let Ok(op) = reader.any() {
+                print_operation(&mut text, lent(&op))?;
+            }
         }
     }
     Ok(text)

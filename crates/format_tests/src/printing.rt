@@ -85,7 +85,9 @@ fn print_body(alloc: Global, out: &mut String, body: &FuncBody) -> Printed {
         if reader.opcode().is_none() {
             break;
         }
-        let op = reader.any()?;
+        let Ok(op) = reader.any() else {
+            return out.push_str(" malformed");
+        };
         out.push_str(" ")?;
         print_operation(out, lent(&op))?;
     }

@@ -10,7 +10,7 @@ use explanation::{
 };
 use index_spaces::IndexSpaces;
 use module_text::write_module;
-use std::alloc::{AllocError, Global};
+use std::alloc::Global;
 use std::fmt::Display;
 use std::io::{self, Write};
 use validator::{Place, ValidateError, validate};
@@ -144,7 +144,7 @@ fn write_validate_error<W: Write>(
 }
 
 // Returns the number of operations of a body, including those that begin and end a body in it.
-fn count_operations(alloc: Global, body: &FuncBody) -> Result<u64, AllocError> {
+fn count_operations(alloc: Global, body: &FuncBody) -> Result<u64, DecodeError> {
     let mut reader = BodyReader::new(alloc, body);
     for count in 0..u64::MAX {
         if reader.opcode().is_none() {
@@ -156,7 +156,7 @@ fn count_operations(alloc: Global, body: &FuncBody) -> Result<u64, AllocError> {
 }
 
 // Returns the number of operations of all functions.
-fn count_all_operations(alloc: Global, funcs: &[Func]) -> Result<u64, AllocError> {
+fn count_all_operations(alloc: Global, funcs: &[Func]) -> Result<u64, DecodeError> {
     let mut count: u64 = 0;
     for func in funcs {
         count = count.saturating_add(count_operations(alloc, &func.body)?);

@@ -5,6 +5,7 @@ use crate::texts::WHOLE;
 use crate::verdicts::Answer;
 use binary::{DecodeError, decode};
 use core_types::Module;
+use loading::load;
 use sidetable::flatten;
 use std::alloc::Global;
 use std::rc::Rc;
@@ -69,6 +70,31 @@ impl Attempt for Decoding {
             Ok(module) => Answer::with_memory(is_whole(&module)),
             Err(DecodeError::OutOfMemory) => Answer::Wanting,
             Err(_) => Answer::Wrong,
+        }
+    }
+}
+
+/// The loading of a module in one reading.
+#[derive(Drop)]
+pub struct OneReading {
+    alloc: Global,
+    bytes: Vec<u8>,
+}
+
+impl OneReading {
+    /// Prepares everything that the call needs. Returns none if that fails.
+    pub fn prepare(alloc: Global) -> Option<OneReading> {
+        let bytes = assemble(alloc, WHOLE).ok()?;
+        Some(OneReading { alloc, bytes })
+    }
+}
+
+impl Attempt for OneReading {
+    fn attempt(&mut self) -> Answer {
+        match load(self.alloc, &self.bytes) {
+            Ok(Some(loaded)) => Answer::with_memory(is_whole(loaded.module())),
+            Ok(None) => Answer::Wrong,
+            Err(_) => Answer::Wanting,
         }
     }
 }

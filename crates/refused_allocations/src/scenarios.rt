@@ -10,7 +10,7 @@ use crate::embeddings::{
 use crate::hosts::{Parts, judge_push};
 use crate::linking::{Defining, Describing, Instantiating, Registering};
 use crate::list::judge_list;
-use crate::modules::{Decoding, Flattening, Loading, Validating};
+use crate::modules::{Decoding, Flattening, Loading, OneReading, Validating};
 use crate::script_runs::{Reading, Running};
 use crate::stores::{GrowingMemory, GrowingTable, Reserving};
 use crate::verdicts::Verdict;
@@ -23,6 +23,7 @@ pub enum Scenario {
     Validate,
     Flatten,
     LoadedModule,
+    OneReading,
     Instantiate,
     Invoke,
     OneRound,
@@ -52,11 +53,12 @@ pub enum Scenario {
 }
 
 /// All scenarios.
-pub static SCENARIOS: [Scenario; 30] = [
+pub static SCENARIOS: [Scenario; 31] = [
     Scenario::Decode,
     Scenario::Validate,
     Scenario::Flatten,
     Scenario::LoadedModule,
+    Scenario::OneReading,
     Scenario::Instantiate,
     Scenario::Invoke,
     Scenario::OneRound,
@@ -93,6 +95,7 @@ impl Scenario {
             Scenario::Validate => "validate",
             Scenario::Flatten => "flatten",
             Scenario::LoadedModule => "loaded-module",
+            Scenario::OneReading => "one-reading",
             Scenario::Instantiate => "instantiate",
             Scenario::Invoke => "invoke",
             Scenario::OneRound => "one-round",
@@ -145,6 +148,7 @@ pub fn run_scenario(alloc: Global, scenario: Scenario, before: usize) -> Verdict
             before,
             "LoadedModule::new",
         ),
+        Scenario::OneReading => judge(OneReading::prepare(alloc), alloc, before, "loading::load"),
         Scenario::Instantiate => judge(Instantiating::prepare(alloc), alloc, before, "instantiate"),
         Scenario::Invoke => judge(Calling::prepare(alloc), alloc, before, "invoke"),
         Scenario::OneRound => judge(Rounds::prepare(alloc, 1), alloc, before, "invoke"),

@@ -202,7 +202,7 @@ pub fn flatten(alloc: Global, decoded: Module) -> Result<(ValidModule, FlatModul
         functions: &functions,
     };
     let mut flattener = new_flattener(alloc, types);
-    let names = validate_with(alloc, &decoded, &mut flattener)?;
+    let (names, named) = validate_with(alloc, &decoded, &mut flattener)?;
     let flat = into_flat_module(flattener);
-    Ok((ValidModule::new(decoded, names), flat))
+    Ok((ValidModule::new(decoded, names, named), flat))
 }

@@ -1,10 +1,12 @@
 ghost use Rattle.std.specs.Prelude.{◌<◌, ◌≤◌, ◌≡◌, ◌⊎◌, bytes_eq, length, option_map, slice_get, IfErr, IfOk, Some};
+ghost use Rattle.meaning.specs.binary.Modules.{names_data};
 ghost use Rattle.meaning.specs.structure.Bodies.{writing};
 ghost use Rattle.meaning.specs.execution.Modules.{code_of};
 ghost use Rattle.meaning.specs.validation.Modules.{IsValid};
-ghost use Rattle.std.specs.List.{All, find};
+ghost use Rattle.std.specs.List.{All, find, list_any};
 ghost use Rattle.core_types.specs.declared.module.DataSegment.{DataSegment as AnySegment};
 ghost use Rattle.core_types.specs.declared.module.Export.{Export as Exported};
+ghost use Rattle.core_types.specs.declared.module.Func.{Func as Function};
 ghost use Rattle.core_types.specs.declared.types.TableType.{TableType as AnyTable};
 ghost use Rattle.meaning.specs.execution.Tables.{most_entries};
 ghost use Rattle.soundness.specs.Links.{IsSoundModule};
@@ -107,6 +109,14 @@ impl LoadedModule {
         ensures sound { IsSoundModule self.now.source }
     {
         self.validated.module()
+    }
+
+    /// Returns whether its code names a data segment.
+    pub fn names_data(&self) -> bool
+        ensures { result ≡ list_any (λ (f : Function). list_any names_data f.body)
+            self.now.source.funcs }
+    {
+        self.validated.names_data()
     }
 
     /// Returns the index that the export of a name refers to, if there is one.

@@ -1,6 +1,6 @@
 //! The results for the bytes of modules, and rows that state them.
 
-use binary::{DecodeError, decode};
+use binary::{DecodeError, decode, decode_outline};
 use core_types::Module;
 use explanation::explain_function;
 use std::alloc::{AllocError, Global};
@@ -44,6 +44,16 @@ impl From<ValidateError> for Refusal {
 pub fn load(alloc: Global, bytes: &[u8]) -> Result<ValidModule, Refusal> {
     let decoded = decode(alloc, bytes)?;
     Ok(validate(alloc, decoded)?)
+}
+
+// Returns the valid module that bytes encode, whose bodies are first cut out.
+fn load_outline(alloc: Global, bytes: &[u8]) -> Result<ValidModule, Refusal> {
+    let outline = decode_outline(alloc, bytes)?;
+    let valid = validate(alloc, outline.module)?;
+    if !outline.counted && valid.names_data() {
+        return Err(Refusal::Undecoded);
+    }
+    Ok(valid)
 }
 
 /// Returns why a module in the text format is not valid, or none if it is valid.
@@ -98,10 +108,12 @@ fn are_explained(alloc: Global, bytes: &[u8], refusal: Option<Refusal>) -> bool 
     ))
 }
 
-// Returns whether a word states the result for bytes, and the explanations agree.
+// Returns whether a word states the result for bytes, also if bodies are cut out, and the explanations agree.
 fn gives(alloc: Global, bytes: &[u8], word: &str) -> bool {
     let refusal = load(alloc, bytes).err();
-    is_named(refusal, word) && are_explained(alloc, bytes, refusal)
+    is_named(refusal, word)
+        && load_outline(alloc, bytes).err() == refusal
+        && are_explained(alloc, bytes, refusal)
 }
 
 // Returns whether a word states the result for a module in the text format.

@@ -10,5 +10,6 @@ pub mod References
 pub mod Steps
 pub mod TailCalls
 pub mod Visiting
+pub mod BodyReading
 pub mod completeness
 pub mod soundness

@@ -1,5 +1,5 @@
 -- What was shown leads on to the whole.
-use Rattle.std.proofs.Common.{◌≡◌, ℕ, ◌+◌, ◌<◌, ◌≤◌, List, [], ◌∷◌, length, drop, get_or, ap, refl, sym, ◌∙◌}
+use Rattle.std.proofs.Common.{◌≡◌, ℕ, ◌+◌, ◌<◌, ◌≤◌, List, [], ◌++◌, ◌∷◌, append_assoc, length, drop, get_or, ap, refl, subst, sym, ◌∙◌}
 use Rattle.std.proofs.lemmas.List.{drop_all, drop_more}
 use Rattle.validator.specs.Visiting.{InTurn}
 
@@ -13,6 +13,12 @@ module _ {S A : Type 0} (Leads : S → A → S → Type 0) where
 
   pub next_shown : (start here next : S) (all left others : List A) (x : A) → left ≡ x ∷ others → Leads here x next → LeadsOn start all here left → LeadsOn start all next others
   next_shown start here next all left others x is leads on to turn = on to (rw is (next, leads, turn))
+
+  -- The same, behind those that were shown.
+  pub last_shown : (start here next : S) (shown others : List A) (x : A) → Leads here x next → LeadsOn start (shown ++ x ∷ others) here (x ∷ others)
+      → LeadsOn start ((shown ++ x ∷ []) ++ others) next others
+  last_shown start here next shown others x leads on =
+      subst (λ (all : List A). LeadsOn start all next others) (sym (append_assoc shown (x ∷ []) others)) (next_shown start here next (shown ++ x ∷ others) (x ∷ others) others x refl leads on)
 
   pub all_shown : (start here : S) (all left : List A) → left ≡ [] → LeadsOn start all here left → InTurn Leads start all here
   all_shown start here all left none on = on here (rw none refl)

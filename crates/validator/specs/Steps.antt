@@ -1,5 +1,5 @@
 -- The effect of one step on the stacks.
-use Rattle.std.specs.Prelude.{◌≡◌, ◌⊎◌, ℕ, List, [], ◌∷◌, ◌++◌, Option, Result, IfErr, OnOk, length, map}
+use Rattle.std.specs.Prelude.{◌≡◌, ◌⊎◌, ℕ, List, [], ◌∷◌, ◌++◌, None, Option, Result, IfErr, OnOk, length, map}
 use Rattle.core_types.specs.declared.op.BlockType.{BlockType}
 use Rattle.core_types.specs.declared.op.ControlOp.{ControlOp}
 use Rattle.core_types.specs.declared.op.ControlOp.TheVariants.{Call, CallIndirect, ReturnCall, ReturnCallIndirect}
@@ -9,6 +9,8 @@ use Rattle.core_types.specs.declared.op.PlainOp.{PlainOp}
 use Rattle.core_types.specs.declared.op.PlainOp.TheVariants.{Control}
 use Rattle.core_types.specs.declared.types.FuncType.{FuncType}
 use Rattle.core_types.specs.declared.types.OperandType.{OperandType}
+use Rattle.core_types.specs.reading.Bodies.{operations_in}
+use Rattle.binary.specs.Bodies.{Passes, Place}
 use Rattle.meaning.specs.validation.Context.{Context}
 use Rattle.meaning.specs.validation.Instructions.{AllFit, known}
 use Rattle.validator.specs.declared.context.BodyContext.{BodyContext}
@@ -72,15 +74,13 @@ Steps lent old new o result =
     OnOk result (StepsTo lent old new o)
     × IfErr result (OnInvalid (CannotBeNext lent old o))
 
--- The result of a step over the first of these operations, after which the others are left.
-abbrev pub StepsOverNext : BodyContext → Stacks → Stacks → (ops others : List Op)
-    → Result (Unit {0}) Fault → Type 0
-StepsOverNext lent old new ops others result =
-    OnOk result ((o : Op) × (ops ≡ o ∷ others) × StepsTo lent old new o)
-    × IfErr result (OnInvalid ((o : Op) × (rest : List Op) × (ops ≡ o ∷ rest)
-    × CannotBeNext lent old o))
+-- Neither does any operation come next that these bytes encode, nor one that is possible.
+abbrev pub IsRefusedNext : BodyContext → Stacks → Place → Type 0
+IsRefusedNext lent old here =
+    (operations_in here.0 ≡ None)
+    ⊎ ((o : Op) × (behind : Place) × Passes here o behind × CannotBeNext lent old o)
 
--- The same in any context.
+-- The result of a step over the operation, in any context.
 abbrev pub StepsAnywhere : Stacks → Stacks → Op → Result (Unit {0}) Fault → Type 0
 StepsAnywhere old new o result = (lent : BodyContext) → Steps lent old new o result
 

@@ -1,7 +1,9 @@
 ghost use Rattle.std.specs.Prelude.{◌≡◌};
+ghost use Rattle.validator.specs.Errors.{fault_of};
 ghost use Rattle.validator.specs.declared.errors.Fault.TheVariants as faults;
 ghost use Rattle.validator.specs.declared.errors.ValidateError.TheVariants.{OutOfMemory};
 
+use binary::DecodeError;
 use std::alloc::{AllocError, AllocFailed};
 use std::fmt;
 use thiserror::Error;
@@ -65,5 +67,16 @@ impl<T: Drop> From<AllocFailed<T>> for Fault {
 
     fn from(_error: AllocFailed<T>) -> Fault {
         Fault::OutOfMemory
+    }
+}
+
+impl From<DecodeError> for Fault {
+    ghost from_gives = { λ error fault. fault ≡ fault_of error };
+
+    fn from(error: DecodeError) -> Fault {
+        match error {
+            DecodeError::OutOfMemory => Fault::OutOfMemory,
+            _ => Fault::Invalid,
+        }
     }
 }

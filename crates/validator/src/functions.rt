@@ -1,14 +1,16 @@
-ghost use Rattle.std.specs.Prelude.{All, IfErr, IsTrue, None, OnOk, Some, ℕ, ◌<◌, ◌↔◌, ◌≡◌, ◌≢◌, ◌≤◌, ◌⊎◌};
+ghost use Rattle.std.specs.List.{list_any};
+ghost use Rattle.std.specs.Prelude.{All, IfErr, IfOk, IsTrue, None, OnOk, Some, ℕ, ◌<◌, ◌↔◌, ◌≡◌, ◌≢◌, ◌≤◌, ◌⊎◌};
 ghost use Rattle.core_types.specs.declared.module.Func.{Func as Function};
-ghost use Rattle.core_types.specs.reading.Bodies.{operations_of};
+ghost use Rattle.binary.specs.Sections.{name_data};
 ghost use Rattle.binary.specs.Values.{first_byte};
 ghost use Rattle.index_spaces.specs.IndexSpaces.{AreIndexSpaces};
+ghost use Rattle.meaning.specs.binary.Modules.{names_data};
 ghost use Rattle.meaning.specs.validation.Modules.{IsValidFunction};
 ghost use Rattle.validator.specs.Completeness.{IsUntyped};
 ghost use Rattle.validator.specs.Errors.{OnInvalid};
 ghost use Rattle.validator.specs.References.{HasMarks};
 ghost use Rattle.validator.specs.Soundness.{IsTyped};
-ghost use Rattle.validator.specs.Steps.{StepsOverNext};
+ghost use Rattle.validator.specs.Steps.{IsRefusedNext};
 ghost use Rattle.validator.specs.Visiting.{InTurn, IsShownFunction, IsShownNext};
 ghost use Rattle.validator.specs.declared.errors.Place.TheVariants.{Section};
 ghost use Rattle.validator.specs.declared.errors.ValidateError.TheVariants.{Invalid, OutOfMemory};
@@ -46,12 +48,12 @@ fn check_any<'a, V: Visitor>(
     visitor: &mut V,
     reader: &mut BodyReader<'_>,
 ) -> Result<(), Fault>
-    requires more { first_byte reader.old ≢ None }
+    requires more { first_byte reader.old.0 ≢ None }
     requires ready { V.IsReady visitor.old }
-    ensures checks { StepsOverNext context.now stacks.old stacks.new (operations_of reader.old)
-        (operations_of reader.new) result }
-    ensures shows { OnOk result (IsShownNext V.IsReady V.Visits visitor.old
-        (operations_of reader.old) (operations_of reader.new) visitor.new) }
+    ensures ready { OnOk result (V.IsReady visitor.new) }
+    ensures shows { OnOk result (IsShownNext V.Visits context.now stacks.old stacks.new
+        visitor.old visitor.new reader.old reader.new) }
+    ensures refused { IfErr result (OnInvalid (IsRefusedNext context.now stacks.old reader.old)) }
 {
     let op = reader.any()?;
     step(alloc, context, stacks, &op)?;
@@ -68,12 +70,12 @@ fn check_infrequent<'a, V: Visitor>(
     visitor: &mut V,
     reader: &mut BodyReader<'_>,
 ) -> Result<(), Fault>
-    requires more { first_byte reader.old ≢ None }
+    requires more { first_byte reader.old.0 ≢ None }
     requires ready { V.IsReady visitor.old }
-    ensures checks { StepsOverNext context.now stacks.old stacks.new (operations_of reader.old)
-        (operations_of reader.new) result }
-    ensures shows { OnOk result (IsShownNext V.IsReady V.Visits visitor.old
-        (operations_of reader.old) (operations_of reader.new) visitor.new) }
+    ensures ready { OnOk result (V.IsReady visitor.new) }
+    ensures shows { OnOk result (IsShownNext V.Visits context.now stacks.old stacks.new
+        visitor.old visitor.new reader.old reader.new) }
+    ensures refused { IfErr result (OnInvalid (IsRefusedNext context.now stacks.old reader.old)) }
 {
     let mut copy = reader.fork();
     let result = check_any(alloc, context, stacks, visitor, &mut copy);
@@ -90,13 +92,13 @@ fn check_control<'a, V: Visitor>(
     reader: &mut BodyReader<'_>,
     code: u8,
 ) -> Result<(), Fault>
-    requires opcode { first_byte reader.old ≡ Some code }
+    requires opcode { first_byte reader.old.0 ≡ Some code }
     requires group { ((0x0C ≤ code) × (code ≤ 0x0D)) ⊎ ((0x0F ≤ code) × (code ≤ 0x10)) }
     requires ready { V.IsReady visitor.old }
-    ensures checks { StepsOverNext context.now stacks.old stacks.new (operations_of reader.old)
-        (operations_of reader.new) result }
-    ensures shows { OnOk result (IsShownNext V.IsReady V.Visits visitor.old
-        (operations_of reader.old) (operations_of reader.new) visitor.new) }
+    ensures ready { OnOk result (V.IsReady visitor.new) }
+    ensures shows { OnOk result (IsShownNext V.Visits context.now stacks.old stacks.new
+        visitor.old visitor.new reader.old reader.new) }
+    ensures refused { IfErr result (OnInvalid (IsRefusedNext context.now stacks.old reader.old)) }
 {
     let op = reader.control(code)?;
     step_control(context, stacks, op)?;
@@ -113,13 +115,13 @@ fn check_mark<'a, V: Visitor>(
     reader: &mut BodyReader<'_>,
     code: u8,
 ) -> Result<(), Fault>
-    requires opcode { first_byte reader.old ≡ Some code }
+    requires opcode { first_byte reader.old.0 ≡ Some code }
     requires group { ((0x02 ≤ code) × (code ≤ 0x05)) ⊎ (code ≡ 0x0B) }
     requires ready { V.IsReady visitor.old }
-    ensures checks { StepsOverNext context.now stacks.old stacks.new (operations_of reader.old)
-        (operations_of reader.new) result }
-    ensures shows { OnOk result (IsShownNext V.IsReady V.Visits visitor.old
-        (operations_of reader.old) (operations_of reader.new) visitor.new) }
+    ensures ready { OnOk result (V.IsReady visitor.new) }
+    ensures shows { OnOk result (IsShownNext V.Visits context.now stacks.old stacks.new
+        visitor.old visitor.new reader.old reader.new) }
+    ensures refused { IfErr result (OnInvalid (IsRefusedNext context.now stacks.old reader.old)) }
 {
     let mark = reader.mark(code)?;
     step_mark(context, stacks, mark)?;
@@ -138,13 +140,13 @@ fn check_from_numeric<'a, V: Visitor>(
     reader: &mut BodyReader<'_>,
     code: u8,
 ) -> Result<(), Fault>
-    requires opcode { first_byte reader.old ≡ Some code }
+    requires opcode { first_byte reader.old.0 ≡ Some code }
     requires group { 0x45 ≤ code }
     requires ready { V.IsReady visitor.old }
-    ensures checks { StepsOverNext context.now stacks.old stacks.new (operations_of reader.old)
-        (operations_of reader.new) result }
-    ensures shows { OnOk result (IsShownNext V.IsReady V.Visits visitor.old
-        (operations_of reader.old) (operations_of reader.new) visitor.new) }
+    ensures ready { OnOk result (V.IsReady visitor.new) }
+    ensures shows { OnOk result (IsShownNext V.Visits context.now stacks.old stacks.new
+        visitor.old visitor.new reader.old reader.new) }
+    ensures refused { IfErr result (OnInvalid (IsRefusedNext context.now stacks.old reader.old)) }
 {
     if code <= 0xC4 {
         let op = reader.numeric(code)?;
@@ -165,12 +167,12 @@ fn check_next<'a, V: Visitor>(
     reader: &mut BodyReader<'_>,
     code: u8,
 ) -> Result<(), Fault>
-    requires opcode { first_byte reader.old ≡ Some code }
+    requires opcode { first_byte reader.old.0 ≡ Some code }
     requires ready { V.IsReady visitor.old }
-    ensures checks { StepsOverNext context.now stacks.old stacks.new (operations_of reader.old)
-        (operations_of reader.new) result }
-    ensures shows { OnOk result (IsShownNext V.IsReady V.Visits visitor.old
-        (operations_of reader.old) (operations_of reader.new) visitor.new) }
+    ensures ready { OnOk result (V.IsReady visitor.new) }
+    ensures shows { OnOk result (IsShownNext V.Visits context.now stacks.old stacks.new
+        visitor.old visitor.new reader.old reader.new) }
+    ensures refused { IfErr result (OnInvalid (IsRefusedNext context.now stacks.old reader.old)) }
 {
     if code >= 0x45 {
         return check_from_numeric(alloc, context, stacks, visitor, reader, code);
@@ -210,7 +212,8 @@ fn check_next<'a, V: Visitor>(
     Ok(())
 }
 
-// Checks the body of a function, and shows its operations. Reuses the room of the stacks.
+// Checks the body of a function, and shows its operations. Reuses the room of the stacks. Returns whether one of them names a data
+// segment.
 #[inline(never)]
 pub fn validate_body<'a, V: Visitor>(
     alloc: Global,
@@ -218,25 +221,30 @@ pub fn validate_body<'a, V: Visitor>(
     stacks: &mut Stacks<'a>,
     visitor: &mut V,
     body: &FuncBody,
-) -> Result<(), Fault>
+) -> Result<bool, Fault>
     requires ready { V.IsReady visitor.old }
     ensures typed { OnOk result (IsTyped context.now body.now) }
     ensures untyped { IfErr result (OnInvalid (IsUntyped context.now body.now)) }
     ensures ready { OnOk result (V.IsReady visitor.new) }
     ensures shown { OnOk result (InTurn V.Visits visitor.old body.now visitor.new) }
+    ensures names { IfOk result (λ named. named ≡ list_any names_data body.now) }
 {
     begin_body(stacks, context.results);
     let mut reader = BodyReader::new(alloc, body);
-    while let Some(code) = reader.opcode() {
+    // The opcode is read at the end of the loop, so that the arms of `check_next` lead there without a test of their result.
+    let mut next = reader.opcode();
+    while let Some(code) = next {
         check_next(alloc, context, stacks, visitor, &mut reader, code)?;
+        next = reader.opcode();
     }
     if !stacks.outer.is_empty() {
         return Err(Fault::Invalid);
     }
-    finish(stacks)
+    finish(stacks)?;
+    Ok(reader.names_data())
 }
 
-// Checks a function of a module, and shows it to the visitor (Validation, Functions).
+// Checks a function of a module, and shows it to the visitor (Validation, Functions). Returns whether it names a data segment.
 fn validate_function<'a, V: Visitor>(
     alloc: Global,
     decoded: &'a Module,
@@ -245,13 +253,14 @@ fn validate_function<'a, V: Visitor>(
     stacks: &mut Stacks<'a>,
     visitor: &mut V,
     func: &'a Func,
-) -> Result<(), Fault>
+) -> Result<bool, Fault>
     requires spaces { AreIndexSpaces decoded.now spaces.now }
     requires marks { HasMarks decoded.now declared.now }
     ensures valid { OnOk result (IsValidFunction decoded.now func.now) }
     ensures invalid { IfErr result (OnInvalid (¬ IsValidFunction decoded.now func.now)) }
     ensures shown { OnOk result (IsShownFunction V.Begins V.Visits V.Ends decoded.now.types
         visitor.old func.now visitor.new) }
+    ensures names { IfOk result (λ named. named ≡ list_any names_data func.now.body) }
 {
     let types = decoded.types.as_slice();
     let Some(ty) = item(types, func.ty) else {
@@ -268,18 +277,19 @@ fn validate_function<'a, V: Visitor>(
         results: ty.results.as_slice(),
     };
     visitor.begin(ty, func)?;
-    validate_body(alloc, &context, stacks, visitor, &func.body)?;
+    let named = validate_body(alloc, &context, stacks, visitor, &func.body)?;
     visitor.end()?;
-    Ok(())
+    Ok(named)
 }
 
+// Checks the functions of a module, and shows them to the visitor. Returns whether their code names a data segment.
 pub fn validate_functions<V: Visitor>(
     alloc: Global,
     decoded: &Module,
     spaces: &IndexSpaces,
     declared: &[bool],
     visitor: &mut V,
-) -> Result<(), ValidateError>
+) -> Result<bool, ValidateError>
     requires spaces { AreIndexSpaces decoded.now spaces.now }
     requires marks { HasMarks decoded.now declared.now }
     ensures valid { OnOk result (HasValidBodies decoded.now) }
@@ -287,15 +297,17 @@ pub fn validate_functions<V: Visitor>(
         visitor.old decoded.now.funcs visitor.new) }
     ensures invalid { IfErr result
         (λ error. (error ≡ OutOfMemory) ⊎ (¬ HasValidBodies decoded.now)) }
+    ensures names { IfOk result (λ named. named ≡ name_data decoded.now.funcs) }
     ensures no_section { IfErr result (λ error. (id : ℕ) → error ≢ Invalid (Section id)) }
 {
     let mut stacks = Stacks::new(alloc);
+    let mut named = false;
     for (index, func) in decoded.funcs.as_slice().iter().enumerate() {
         match validate_function(alloc, decoded, spaces, declared, &mut stacks, visitor, func) {
-            Ok(()) => {}
+            Ok(names) => named |= names,
             Err(Fault::Invalid) => return Err(ValidateError::Invalid(Place::Func(index))),
             Err(Fault::OutOfMemory) => return Err(ValidateError::OutOfMemory),
         }
     }
-    Ok(())
+    Ok(named)
 }

@@ -1,6 +1,7 @@
 ghost use Rattle.std.specs.Prelude.{IfErr, IfOk, IsTrue, OnErr, OnOk, false, ◌≡◌, ◌⊎◌};
 ghost use Rattle.index_spaces.specs.IndexSpaces.{AreIndexSpaces};
 ghost use Rattle.meaning.specs.validation.Modules.{IsValid};
+ghost use Rattle.binary.specs.Sections.{name_data};
 ghost use Rattle.export_names.specs.Order.{IsNameOrder};
 ghost use Rattle.validator.specs.Constants.{IsConstantContext};
 ghost use Rattle.validator.specs.Modules.{HasValidDeclarations, HasValidParts};
@@ -101,18 +102,20 @@ fn validate_parts(
     )
 }
 
-// Checks a module by each rule, given the order of its exports' names, and shows its functions to the visitor.
+// Checks a module by each rule, given the order of its exports' names, and shows its functions to the visitor. Returns whether its code
+// names a data segment.
 fn validate_module<V: Visitor>(
     alloc: Global,
     decoded: &Module,
     names: &NameOrder,
     visitor: &mut V,
-) -> Result<(), ValidateError>
+) -> Result<bool, ValidateError>
     requires { IsNameOrder decoded.now.exports names.now }
     ensures valid { OnOk result (IsValid decoded.now) }
     ensures invalid { IfErr result (λ error. (error ≡ OutOfMemory) ⊎ (¬ IsValid decoded.now)) }
     ensures shown { OnOk result (InTurn (IsShownFunction V.Begins V.Visits V.Ends decoded.now.types)
         visitor.old decoded.now.funcs visitor.new) }
+    ensures named { IfOk result (λ named. named ≡ name_data decoded.now.funcs) }
 {
     validate_declarations(decoded)?;
     let spaces = IndexSpaces::new(alloc, decoded)?;
@@ -122,7 +125,7 @@ fn validate_module<V: Visitor>(
 }
 
 /// Checks a module in one pass over its operations, without recursion, and shows them to a visitor. Returns the order of the names of
-/// its exports (Validation, Modules).
+/// its exports, and whether its code names a data segment (Validation, Modules).
 ///
 /// # Errors
 ///
@@ -131,16 +134,17 @@ pub fn validate_with<V: Visitor>(
     alloc: Global,
     decoded: &Module,
     visitor: &mut V,
-) -> Result<NameOrder, ValidateError>
-    ensures names { IfOk result (λ names. IsNameOrder decoded.now.exports names) }
+) -> Result<(NameOrder, bool), ValidateError>
+    ensures names { IfOk result (λ found. IsNameOrder decoded.now.exports found.0) }
+    ensures named { IfOk result (λ found. found.1 ≡ name_data decoded.now.funcs) }
     ensures valid { OnOk result (IsValid decoded.now) }
     ensures invalid { IfErr result (λ error. (error ≡ OutOfMemory) ⊎ (¬ IsValid decoded.now)) }
     ensures shown { OnOk result (InTurn (IsShownFunction V.Begins V.Visits V.Ends decoded.now.types)
         visitor.old decoded.now.funcs visitor.new) }
 {
     let names = NameOrder::new(alloc, decoded.exports.as_slice())?;
-    validate_module(alloc, decoded, &names, visitor)?;
-    Ok(names)
+    let named = validate_module(alloc, decoded, &names, visitor)?;
+    Ok((names, named))
 }
 
 /// Checks a module in one pass over its operations, without recursion (Validation, Modules).
@@ -153,6 +157,6 @@ pub fn validate(alloc: Global, decoded: Module) -> Result<ValidModule, ValidateE
     ensures valid { OnOk result (IsValid decoded) }
     ensures invalid { IfErr result (λ error. (error ≡ OutOfMemory) ⊎ (¬ IsValid decoded)) }
 {
-    let names = validate_with(alloc, &decoded, &mut NoVisitor {})?;
-    Ok(ValidModule::new(decoded, names))
+    let (names, named) = validate_with(alloc, &decoded, &mut NoVisitor {})?;
+    Ok(ValidModule::new(decoded, names, named))
 }

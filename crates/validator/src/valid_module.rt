@@ -9,6 +9,7 @@ use std::marker::Model;
 pub struct ValidModule {
     inner: Module,
     names: NameOrder,
+    names_data: bool,
 }
 
 impl Model for ValidModule {
@@ -16,27 +17,35 @@ impl Model for ValidModule {
 
     ghost Value = { Module };
 
+    ghost use Rattle.std.specs.Prelude.{◌≡◌};
+    ghost use Rattle.binary.specs.Sections.{name_data};
     ghost use Rattle.validator.specs.Modules.{IsNamedValid};
 
     ghost view = { λ v. v.inner };
 
-    ghost invariant = { λ v. IsNamedValid v.inner v.names };
+    ghost invariant = { λ v. IsNamedValid v.inner v.names × (v.names_data ≡ name_data v.inner.funcs) };
 }
 
 impl ValidModule {
     ghost use Rattle.std.specs.Prelude.{◌≡◌, bytes_eq, option_map};
     ghost use Rattle.std.specs.List.{find};
     ghost use Rattle.core_types.specs.declared.module.Export.{Export as Exported};
+    ghost use Rattle.binary.specs.Sections.{name_data};
     ghost use Rattle.export_names.specs.Order.{IsNameOrder};
     ghost use Rattle.meaning.specs.validation.Modules.{IsValid};
 
     // Creates a valid module. The module must meet each rule.
-    pub fn new(inner: Module, names: NameOrder) -> ValidModule
+    pub fn new(inner: Module, names: NameOrder, names_data: bool) -> ValidModule
         requires valid { IsValid inner }
         requires names { IsNameOrder inner.exports names }
+        requires named { names_data ≡ name_data inner.funcs }
         ensures { result ≡ inner }
     {
-        ValidModule { inner, names }
+        ValidModule {
+            inner,
+            names,
+            names_data,
+        }
     }
 
     /// Borrows the module.
@@ -45,6 +54,13 @@ impl ValidModule {
         ensures valid { IsValid self.now }
     {
         &self.inner
+    }
+
+    /// Returns whether its code names a data segment.
+    pub fn names_data(&self) -> bool
+        ensures { result ≡ name_data self.now.funcs }
+    {
+        self.names_data
     }
 
     /// Returns the index that the export of a name refers to, if there is one. The search is binary: the number of comparisons

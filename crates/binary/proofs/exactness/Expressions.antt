@@ -84,7 +84,7 @@ ops_of_body (IfElse t inner other rest) bytes (begin, inside, second, others, pa
     joined inside behind (writing inner) (Else ∷ (writing other ++ (End ∷ writing rest))) (ops_of_body inner inside body) middle in
     (begin, inside ++ behind, parts, here, whole)
 
-body_of_ops : (tree : Body) (bytes : List ℕ) → SpellsOps bytes (writing tree) → SpellsBody bytes tree
+pub body_of_ops : (tree : Body) (bytes : List ℕ) → SpellsOps bytes (writing tree) → SpellsBody bytes tree
 body_of_ops Empty bytes e = e
 body_of_ops (Then op rest) bytes (first, others, parts, here, more) =
     (first, others, parts, here, body_of_ops rest others more)

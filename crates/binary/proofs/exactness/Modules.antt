@@ -12,6 +12,7 @@ use Rattle.core_types.specs.declared.types.TableType.{TableType}
 use Rattle.meaning.specs.binary.Modules.{IsDataCount, SpellsModule, SpellsSections}
 use Rattle.core_types.specs.reading.Conventions.{◌>>=◌}
 use Rattle.binary.specs.Errors.{IsNoModule}
+use Rattle.binary.specs.Expressions.{expression_at}
 use Rattle.binary.specs.Limits.{HasSmallParts}
 use Rattle.binary.specs.Modules.{Sections, contents_at, contents_of, count_of, definitions_at, definitions_of, header, module_at, module_of, sections_at}
 use Rattle.core_types.specs.reading.Values.{expected_at}
@@ -81,14 +82,14 @@ abbrev SpellsParts : List ℕ → Module → Option ℕ → Type 0
 SpellsParts bytes m count = (behind : List ℕ) × (bytes ≡ header ++ behind) × SpellsSections behind m count
 
 pub module_sound : (bytes rest : List ℕ) (m : Module) (count : Option ℕ)
-    → module_at bytes ≡ Some ((m, count), rest) → SpellsParts bytes m count
+    → module_at expression_at bytes ≡ Some ((m, count), rest) → SpellsParts bytes m count
 unfolding module_at sections_at definitions_at contents_at
 module_sound bytes rest m count e =
     let start =
     bind_some (expected_at header bytes)
-    (λ start. sections_at start.1 >>= λ w. found (module_of w.0, count_of w.0) w.1) ((m, count), rest) e in
+    (λ start. sections_at expression_at start.1 >>= λ w. found (module_of w.0, count_of w.0) w.1) ((m, count), rest) e in
     let read =
-    bind_some (sections_at start.0.1) (λ w. found (module_of w.0, count_of w.0) w.1) ((m, count), rest) start.2 in
+    bind_some (sections_at expression_at start.0.1) (λ w. found (module_of w.0, count_of w.0) w.1) ((m, count), rest) start.2 in
     let same = found-injective (module_of read.0.0, count_of read.0.0) (m, count) read.0.1 rest read.2 in
     let front = (expected_reader header).sound bytes start.0.1 start.0.0 start.1 in
     let (spelt, agrees) = sections.sound start.0.1 read.0.1 read.0.0 read.1 in
@@ -96,7 +97,7 @@ module_sound bytes rest m count e =
     (start.0.1, front.parts ∙ ap (λ (z : List ℕ). z ++ start.0.1) front.spelt, subst (λ (p : Module × Option ℕ). SpellsSections start.0.1 p.0 p.1) same.0 behind)
 
 pub module_complete : (bytes : List ℕ) (m : Module) (count : Option ℕ) → SpellsParts bytes m count
-    → module_at bytes ≡ Some ((m, count), [])
+    → module_at expression_at bytes ≡ Some ((m, count), [])
 unfolding module_at sections_at definitions_at contents_at
 module_complete bytes m count (behind, parts, spelt) =
     let agrees : sections.Agrees (sections_of m count) =
@@ -106,7 +107,7 @@ module_complete bytes m count (behind, parts, spelt) =
 
 -- Bytes encode at most one module, with one data count.
 pub one_module : (bytes rest : List ℕ) (m other : Module) (count n : Option ℕ)
-    → module_at bytes ≡ Some ((m, count), rest) → SpellsParts bytes other n → (m ≡ other) × (count ≡ n)
+    → module_at expression_at bytes ≡ Some ((m, count), rest) → SpellsParts bytes other n → (m ≡ other) × (count ≡ n)
 one_module bytes rest m other count n read spelt =
     let same = found-injective (m, count) (other, n) rest [] (sym read ∙ module_complete bytes other n spelt) in
     let pair : ◌≡◌ {A = Module × Option ℕ} (m, count) (other, n) = same.0 in
@@ -118,10 +119,10 @@ spelt_once bytes a b (behind, parts, (count, spelt, counts)) (other, other_parts
 
 -- ---- what a refusal states
 
-pub no_module : (bytes : List ℕ) → module_at bytes ≡ None → IsNoModule bytes
+pub no_module : (bytes : List ℕ) → module_at expression_at bytes ≡ None → IsNoModule bytes
 no_module bytes none m (behind, parts, (count, spelt, counts)) within = let read = module_complete bytes m count (behind, parts, spelt) in absurd cc
 
-module _ (bytes rest : List ℕ) (m : Module) (count : Option ℕ) (read : module_at bytes ≡ Some ((m, count), rest)) where
+module _ (bytes rest : List ℕ) (m : Module) (count : Option ℕ) (read : module_at expression_at bytes ≡ Some ((m, count), rest)) where
   pub wrong_count : (IsDataCount m count → ⊥) → IsNoModule bytes
   wrong_count wrong other (behind, parts, (n, spelt, counts)) within =
       let same = one_module bytes rest m other count n read (behind, parts, spelt) in

@@ -1,23 +1,24 @@
 -- The operations of a body, one after the other.
-use Rattle.std.proofs.Common.{List, [], ap, arith, length, length-append, refl, suc, sym, zero, ℕ, ◌<◌, ◌∙◌, ◌∷◌, ◌≡◌, ◌≤◌}
-use Rattle.std.specs.Prelude.{None, Option, Some}
+use Rattle.std.proofs.Common.{Bool, List, [], ap, arith, false, length, length-append, refl, suc, sym, zero, ℕ, ◌<◌, ◌∙◌, ◌∷◌, ◌≡◌, ◌≤◌, ◌||◌}
+use Rattle.std.specs.Prelude.{Err, None, Ok, Option, Result, Some, option_map}
+use Rattle.core_types.specs.Expressions.{mark_op}
+use Rattle.core_types.specs.declared.lent_op.Mark.{Mark}
+use Rattle.core_types.specs.declared.lent_op.Mark.TheVariants.{Block, Else, End, If, Loop}
 use Rattle.core_types.specs.declared.op.Op.{Op}
 use Rattle.core_types.specs.reading.Bodies.{each_op_at, operations_in, operations_of}
 use Rattle.core_types.specs.reading.Conventions.{◌>>=◌}
 use Rattle.core_types.specs.reading.Instructions.{op_at}
+use Rattle.meaning.specs.binary.Modules.{names_data}
+use Rattle.binary.specs.Bodies.{Passes, PassesNext}
+use Rattle.binary.specs.Conventions.{GivesSeen}
 use Rattle.binary.specs.Errors.{OnRefused}
+use Rattle.binary.specs.Values.{first_byte}
 use Rattle.binary.specs.declared.errors.DecodeError.{DecodeError}
 use Rattle.binary.proofs.Refusals.{OnRefused-map}
 use Rattle.binary.proofs.exactness.Expressions.{SpellsOps}
-use Rattle.binary.proofs.exactness.Readers.{bind_some, found-injective}
 use Rattle.binary.proofs.exactness.instructions.Operations.{op_has_bytes, op_reader, op_shorter}
-
--- Two found values are the same.
-pub some_same : {A : Type 0} {x y : A} → ◌≡◌ {A = Option A} (Some x) (Some y) → y ≡ x
-some_same e = cc
-
-no_some : {A : Type 0} {x : A} → ◌≡◌ {A = Option A} None (Some x) → ⊥
-no_some e = absurd cc
+use Rattle.binary.proofs.loops.DataNames.{or_none}
+use Rattle.binary.proofs.loops.Values.{some_bytes}
 
 each_complete : (steps : ℕ) (bytes : List ℕ) (ops : List Op) → SpellsOps bytes ops → length bytes ≤ steps → each_op_at steps bytes ≡ Some ops
 unfolding each_op_at
@@ -57,57 +58,58 @@ same_steps (suc n) (suc m) (byte ∷ bytes) a b =
     go None e others = rw e refl
     go (Some (op, after)) e others = rw (e, others op after e) refl
 
--- The first operation, and the others.
-pub next_is_first : (bytes after : List ℕ) (ops : List Op) (op : Op) → operations_in bytes ≡ Some ops → op_at bytes ≡ Some (op, after)
-    → (others : List Op) × (ops ≡ op ∷ others) × (operations_in after ≡ Some others)
+-- The operations are the first one and the others, if there are others.
+pub next_is_first : (bytes after : List ℕ) (op : Op) → op_at bytes ≡ Some (op, after)
+    → operations_in bytes ≡ option_map (λ (ops : List Op). op ∷ ops) (operations_in after)
 unfolding operations_in each_op_at
-next_is_first [] after ops op all read = absurd (omega (arith, op_shorter [] after op read))
-next_is_first (byte ∷ bytes) after ops op all read =
-    let first = bind_some (op_at (byte ∷ bytes)) (λ (o : Op × List ℕ). each_op_at (length bytes) o.1 >>= λ (rest : List Op). Some (o.0 ∷ rest)) ops all in
-    let same = found-injective first.0.0 op first.0.1 after (sym first.1 ∙ read) in
-    let rest = bind_some (each_op_at (length bytes) first.0.1) (λ (others : List Op). Some (first.0.0 ∷ others)) ops first.2 in
-    let shorter = op_shorter (byte ∷ bytes) after op read in (
-      rest.0,
-      some_same rest.2 ∙ ap (λ (o : Op). o ∷ rest.0) same.0,
-      same_steps (length after) (length bytes) after (omega arith) (omega (arith, shorter)) ∙ ap (λ (z : List ℕ). each_op_at (length bytes) z) (sym same.1) ∙ rest.1,
-    )
+next_is_first [] after op read = absurd (omega (arith, op_shorter [] after op read))
+next_is_first (byte ∷ bytes) after op read =
+    let shorter = op_shorter (byte ∷ bytes) after op read in
+    let others = same_steps (length bytes) (length after) after (omega (arith, shorter)) (omega arith) in
+    rw (read, others) (by_case (each_op_at (length after) after))
+  where
+    by_case : (others : Option (List Op)) → (others >>= λ (ops : List Op). Some (op ∷ ops)) ≡ option_map (λ (ops : List Op). op ∷ ops) others
+    by_case None = refl
+    by_case (Some ops) = refl
 
--- Operations that are left are read.
-pub next_is_read : (bytes : List ℕ) (ops : List Op) → operations_in bytes ≡ Some ops → 0 < length bytes → op_at bytes ≡ None → ⊥
+-- Without a first operation there are none.
+none_is_first : (bytes : List ℕ) → 0 < length bytes → op_at bytes ≡ None → operations_in bytes ≡ None
 unfolding operations_in each_op_at
-next_is_read [] ops all more none = absurd (omega arith)
-next_is_read (byte ∷ bytes) ops all more none =
-    let first = bind_some (op_at (byte ∷ bytes)) (λ (o : Op × List ℕ). each_op_at (length bytes) o.1 >>= λ (rest : List Op). Some (o.0 ∷ rest)) ops all in
-    no_some (sym none ∙ first.1)
-
--- If no bytes are left, no operations are.
-pub none_left : (bytes : List ℕ) (ops : List Op) → operations_in bytes ≡ Some ops → length bytes ≡ 0 → ops ≡ []
-unfolding operations_in each_op_at
-none_left [] ops all none = some_same all
-none_left (byte ∷ bytes) ops all none = absurd (omega arith)
+none_is_first [] more none = absurd (omega arith)
+none_is_first (byte ∷ bytes) more none = rw none refl
 
 -- What the bytes encode.
 pub operations_are : (bytes : List ℕ) (ops : List Op) → operations_in bytes ≡ Some ops → operations_of bytes ≡ ops
 unfolding operations_of
 operations_are bytes ops is = rw is refl
 
-pub encodes_its_own : (bytes : List ℕ) (ops : List Op) → operations_in bytes ≡ Some ops → operations_in bytes ≡ Some (operations_of bytes)
-encodes_its_own bytes ops is = rw (operations_are bytes ops is) is
+-- An operation that is read is passed.
+pub first_passes : (bytes after : List ℕ) (op : Op) (before now : Bool) → op_at bytes ≡ Some (op, after) → now ≡ (before || names_data op)
+    → Passes (bytes, before) op (after, now)
+first_passes bytes after op before now read noted =
+    record { shorter = op_shorter bytes after op read; operations = next_is_first bytes after op read; names_data = noted }
 
-module _ (bytes : List ℕ) (encodes : operations_in bytes ≡ Some (operations_of bytes)) where
-  -- Reading an operation that is left can fail only for lack of memory.
-  pub only_for_memory : (error : DecodeError) → 0 < length bytes → OnRefused error (op_at bytes ≡ None) → OnRefused error ⊥
-  only_for_memory error more refused = OnRefused-map error (op_at bytes ≡ None) ⊥ (next_is_read bytes (operations_of bytes) encodes more) refused
+-- If none is, none is encoded.
+pub refused_first : (bytes : List ℕ) (error : DecodeError) → 0 < length bytes → OnRefused error (op_at bytes ≡ None)
+    → OnRefused error (operations_in bytes ≡ None)
+refused_first bytes error more refused = OnRefused-map error (op_at bytes ≡ None) (operations_in bytes ≡ None) (none_is_first bytes more) refused
 
-  module _ (after : List ℕ) (op : Op) (read : op_at bytes ≡ Some (op, after)) where
-    -- What is left after an operation encodes operations.
-    pub left_encodes : operations_in after ≡ Some (operations_of after)
-    left_encodes =
-        let (rest, is, left) = next_is_first bytes after (operations_of bytes) op encodes read in
-        encodes_its_own after rest left
+-- The same, if the operation names no data segment.
+pub unnamed_passes : {X : Type 0} (view : X → Op) → ((x : X) → names_data (view x) ≡ false) → (result : Result X DecodeError) (bytes after : List ℕ) (byte : ℕ)
+    (named : Bool) → first_byte bytes ≡ Some byte → GivesSeen view result after (op_at bytes) → PassesNext view result (bytes, named) (after, named)
+unnamed_passes view none (Ok x) bytes after byte named first read =
+    first_passes bytes after (view x) named named read (sym (ap (λ (b : Bool). named || b) (none x) ∙ or_none named))
+unnamed_passes view none (Err error) bytes after byte named first refused = refused_first bytes error (some_bytes bytes byte first) refused
 
-    -- The operation is the first, and the others are left.
-    pub first_and_left : operations_of bytes ≡ op ∷ operations_of after
-    first_and_left =
-        let (rest, is, left) = next_is_first bytes after (operations_of bytes) op encodes read in
-        is ∙ ap (λ (ops : List Op). op ∷ ops) (sym (operations_are after rest left))
+pub marks_name_none : (mark : Mark) → names_data (mark_op mark) ≡ false
+marks_name_none (Block type) = refl
+marks_name_none (Loop type) = refl
+marks_name_none (If type) = refl
+marks_name_none Else = refl
+marks_name_none End = refl
+
+-- If no bytes are left, no operations are.
+pub none_left : (bytes : List ℕ) → first_byte bytes ≡ None → operations_in bytes ≡ Some []
+unfolding operations_in each_op_at
+none_left [] none = refl
+none_left (byte ∷ bytes) none = absurd cc

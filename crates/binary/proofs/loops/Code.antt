@@ -6,6 +6,8 @@ use Rattle.std.proofs.lemmas.Bool.{le-ltb, lt-ltb}
 use Rattle.std.proofs.lemmas.List.{drop_more}
 use Rattle.core_types.specs.declared.module.Func.{Func}
 use Rattle.core_types.specs.declared.types.ValType.{ValType}
+use Rattle.core_types.specs.declared.op.Op.{Op}
+use Rattle.core_types.specs.reading.Conventions.{Reading}
 use Rattle.binary.specs.Errors.{OnRefused}
 use Rattle.binary.specs.Sections.{code_at, codes_at, groups_at, local_group_at}
 use Rattle.binary.specs.declared.errors.DecodeError.{DecodeError}
@@ -50,27 +52,27 @@ module _ (locals : List ValType) (count i : ℕ) (bytes : List ℕ) (total : Opt
 
 -- ---- the functions of the code section
 
-module _ (types : List ℕ) (i : ℕ) (funcs : List Func) (bytes : List ℕ) (total : Option (List Func × List ℕ)) (so_far : codes_at (drop i types) funcs bytes ≡ total) where
+module _ (body_at : Reading (List Op)) (types : List ℕ) (i : ℕ) (funcs : List Func) (bytes : List ℕ) (total : Option (List Func × List ℕ)) (so_far : codes_at body_at (drop i types) funcs bytes ≡ total) where
   pub codes_continue : (f : Func) (after : List ℕ) → i < length types
-      → code_at (get_or types i 0) bytes ≡ Some (f, after)
-      → codes_at (drop (i + 1) types) (funcs ++ f ∷ []) after ≡ total
+      → code_at body_at (get_or types i 0) bytes ≡ Some (f, after)
+      → codes_at body_at (drop (i + 1) types) (funcs ++ f ∷ []) after ≡ total
   unfolding codes_at
   codes_continue f after more read_is =
-      let turn : codes_at (drop i types) funcs bytes ≡ codes_at (drop (i + 1) types) (funcs ++ f ∷ []) after =
+      let turn : codes_at body_at (drop i types) funcs bytes ≡ codes_at body_at (drop (i + 1) types) (funcs ++ f ∷ []) after =
       rw (drop_more types i 0 more, read_is) refl in
       sym turn ∙ so_far
 
   pub codes_fail : (error : DecodeError) → i < length types
-      → OnRefused error (code_at (get_or types i 0) bytes ≡ None) → OnRefused error (total ≡ None)
+      → OnRefused error (code_at body_at (get_or types i 0) bytes ≡ None) → OnRefused error (total ≡ None)
   unfolding codes_at
   codes_fail error more refused =
-      OnRefused-map error (code_at (get_or types i 0) bytes ≡ None) (total ≡ None) (λ none.
-      let turn : codes_at (drop i types) funcs bytes ≡ None = rw (drop_more types i 0 more, none) refl in
+      OnRefused-map error (code_at body_at (get_or types i 0) bytes ≡ None) (total ≡ None) (λ none.
+      let turn : codes_at body_at (drop i types) funcs bytes ≡ None = rw (drop_more types i 0 more, none) refl in
       sym so_far ∙ turn) refused
 
   pub codes_end : length types ≤ i → total ≡ Some (funcs, bytes)
   unfolding codes_at
   codes_end over =
-      let turn : codes_at (drop i types) funcs bytes ≡ Some (funcs, bytes) =
+      let turn : codes_at body_at (drop i types) funcs bytes ≡ Some (funcs, bytes) =
       rw (drop_of_length-le types over) refl in
       sym so_far ∙ turn

@@ -1,6 +1,6 @@
 //! The data count (Binary Format, Data Count Section).
 
-ghost use Rattle.std.specs.Prelude.{◌≡◌, ◌↔◌, IsTrue};
+ghost use Rattle.std.specs.Prelude.{◌≡◌, ◌↔◌, false, IsTrue, None};
 ghost use Rattle.binary.specs.Sections.{name_data};
 ghost use Rattle.meaning.specs.binary.Modules.{IsDataCount};
 
@@ -14,5 +14,16 @@ pub fn fits_count(count: Option<u32>, decoded: &Module, data_named: bool) -> boo
     match count {
         Some(count) => count as usize == decoded.datas.len(),
         None => !data_named,
+    }
+}
+
+// Like `fits_count`, if it is not known yet whether code names a data segment.
+pub fn may_fit_count(count: Option<u32>, decoded: &Module) -> bool
+    ensures { IsTrue result → (count ≡ None → name_data decoded.now.funcs ≡ false)
+        → IsDataCount decoded.now count }
+{
+    match count {
+        Some(count) => count as usize == decoded.datas.len(),
+        None => true,
     }
 }

@@ -1,6 +1,7 @@
 -- Reading the operations of a body.
 use Rattle.std.specs.Prelude.{List, ℕ, None, Option, Some, [], ◌∷◌, length, suc, zero}
 use Rattle.core_types.specs.declared.op.Op.{Op}
+use Rattle.core_types.specs.declared.op.Op.TheVariants.{Else}
 use Rattle.core_types.specs.reading.Conventions.{◌>>=◌}
 use Rattle.core_types.specs.reading.Instructions.{op_at}
 
@@ -17,10 +18,14 @@ each_op_at (suc steps) (byte ∷ bytes) = do
 unfoldable pub operations_in : List ℕ → Option (List Op)
 operations_in bytes = each_op_at (length bytes) bytes
 
-abbrev pub or_none : Option (List Op) → List Op
-or_none None = []
-or_none (Some ops) = ops
+-- An else without an if, which no body contains.
+abbrev pub stray_else : List Op
+stray_else = Else ∷ []
 
--- The operations that these bytes encode.
+abbrev pub or_stray_else : Option (List Op) → List Op
+or_stray_else None = stray_else
+or_stray_else (Some ops) = ops
+
+-- The operations that these bytes encode. Bytes that encode none are seen as an else without an if, which no type accepts.
 unfoldable pub operations_of : List ℕ → List Op
-operations_of bytes = or_none (operations_in bytes)
+operations_of bytes = or_stray_else (operations_in bytes)

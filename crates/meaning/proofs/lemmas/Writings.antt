@@ -4,6 +4,7 @@ use Rattle.std.proofs.lemmas.List.{append-nil}
 use Rattle.std.specs.Prelude.{Some, None}
 use Rattle.core_types.specs.declared.op.Op.{Op}
 use Rattle.core_types.specs.declared.op.Op.TheVariants.{Else, End}
+use Rattle.core_types.specs.reading.Bodies.{stray_else}
 use Rattle.meaning.specs.structure.Bodies.{Body, BlockKind, LoopKind, IfKind, Empty, Then, Nested, IfElse, Rests, writing, if_with, enclosed, rests, body_of}
 
 -- one body after another
@@ -64,3 +65,12 @@ read (IfElse type inner other rest) ops = ap (enclosed (λ inside behind. if_wit
 -- The rest of a body's writing is the body.
 pub read-whole : (b : Body) → body_of (writing b) ≡ b
 read-whole b = ap body_of (sym (append-nil (writing b))) ∙ ap (λ (r : Rests). r.here.body) (read b []) ∙ joined-Empty b
+
+-- No body is an else without an if.
+pub never_stray : (body : Body) → stray_else ≡ writing body → ⊥
+never_stray Empty e = absurd cc
+never_stray (Then op rest) e = absurd cc
+never_stray (Nested BlockKind type inner rest) e = absurd cc
+never_stray (Nested LoopKind type inner rest) e = absurd cc
+never_stray (Nested IfKind type inner rest) e = absurd cc
+never_stray (IfElse type inner other rest) e = absurd cc

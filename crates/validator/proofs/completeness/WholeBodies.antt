@@ -1,7 +1,6 @@
 -- The first and the last operation of a body: what is still possible.
 use Rattle.std.proofs.Common.{◌≡◌, ◌<◌, ◌∷◌, [], List, ap, arith, length, refl, reverse, subst, sym, ◌∙◌}
 use Rattle.std.proofs.lemmas.List.{append-nil, length-reverse}
-use Rattle.std.specs.Prelude.{Result, Ok, Err, IfErr}
 use Rattle.core_types.specs.declared.op.Op.{Op}
 use Rattle.core_types.specs.declared.types.ValType.{ValType}
 use Rattle.meaning.specs.structure.Bodies.{Body, writing}
@@ -11,11 +10,9 @@ use Rattle.validator.specs.declared.context.BodyContext.{BodyContext}
 use Rattle.validator.specs.declared.control_frames.ControlFrame.{ControlFrame}
 use Rattle.validator.specs.declared.control_frames.FrameKind.TheVariants.{Function}
 use Rattle.validator.specs.declared.control_frames.Stacks.{Stacks}
-use Rattle.validator.specs.declared.errors.Fault.{Fault}
 use Rattle.validator.specs.Completeness.{IsTypingOfRest, IsUntyped, IsRestTyped}
 use Rattle.validator.specs.Contexts.{IsBodyOf}
 use Rattle.validator.specs.ControlFrames.{label_by, label_of}
-use Rattle.validator.specs.Errors.{OnInvalid}
 use Rattle.validator.specs.Steps.{CannotBeNext, KeepsRest, NeverCloses}
 use Rattle.validator.proofs.completeness.BlockEnds.{nothing_left}
 use Rattle.validator.proofs.completeness.Instructions.{IsTypingOfRest-parts}
@@ -78,8 +75,3 @@ module _ (s : BodyContext) (ops : List Op) (stacks : Stacks) (goes : IsRestTyped
         let left = (nothing_left p).1 in
         never.at p.under left.own p.here.theirs left.whole left.height left.covers left.fits;
   }
-
-pub err_never_whole : (result : Result (Unit {0}) Fault) (s : BodyContext) (ops : List Op) (stacks : Stacks) → IsRestTyped s ops stacks []
-    → IfErr result (OnInvalid (NeverCloses stacks)) → IfErr result (OnInvalid (IsUntyped s ops))
-err_never_whole (Ok done) s ops stacks goes refused = tt
-err_never_whole (Err fault) s ops stacks goes refused = λ invalid. never_whole s ops stacks goes (refused invalid)

@@ -1,6 +1,6 @@
 -- The first and the last operation of a body: what was read.
 use Rattle.std.proofs.Common.{◌≡◌, ◌++◌, ◌∷◌, [], List, ap, false, refl, reverse, subst, sym, ◌∙◌}
-use Rattle.std.specs.Prelude.{Result, Ok, Err, OnOk, Some}
+use Rattle.std.specs.Prelude.{Some}
 use Rattle.core_types.specs.declared.op.Op.{Op}
 use Rattle.core_types.specs.declared.types.OperandType.{OperandType}
 use Rattle.core_types.specs.declared.types.ValType.{ValType}
@@ -11,7 +11,6 @@ use Rattle.validator.specs.declared.context.BodyContext.{BodyContext}
 use Rattle.validator.specs.declared.control_frames.ControlFrame.{ControlFrame}
 use Rattle.validator.specs.declared.control_frames.FrameKind.TheVariants.{Function}
 use Rattle.validator.specs.declared.control_frames.Stacks.{Stacks}
-use Rattle.validator.specs.declared.errors.Fault.{Fault}
 use Rattle.validator.specs.ControlFrames.{label_by, label_of}
 use Rattle.validator.specs.Soundness.{IsReadTyped, IsTypingOfRead, IsTyped}
 use Rattle.validator.specs.Steps.{Closes, KeepsRead}
@@ -34,7 +33,7 @@ pub next_read : (s : BodyContext) (old new : Stacks) (read : List Op) (o : Op) �
 next_read s old new read o before reads = record { in_context = λ context described. reads.keeps context described read (before.in_context context described) }
 
 -- All operations were read, and the body of the function's own frame is whole.
-all_read : (s : BodyContext) (stacks : Stacks) (left : List OperandType) (read : List Op) → IsReadTyped s stacks read → stacks.outer.items ≡ [] → Closes stacks left → IsTyped s read
+pub all_read : (s : BodyContext) (stacks : Stacks) (left : List OperandType) (read : List Op) → IsReadTyped s stacks read → stacks.outer.items ≡ [] → Closes stacks left → IsTyped s read
 all_read s stacks left read before alone closes = record {
   in_context = λ context described.
       let opened = subst (λ (z : List ControlFrame). IsTypingOfRead context stacks.innermost (reverse z) stacks.operands [] read) alone (before.in_context context described) in
@@ -53,8 +52,3 @@ all_read s stacks left read before alone closes = record {
             (subst (λ (z : List ValType). HasType (with_label context s.results.now) whole.here.body (known z) (known stacks.innermost.end_types.now)) start_types typed),
       );
 }
-
-pub ok_all_read : (result : Result (Unit {0}) Fault) (s : BodyContext) (stacks : Stacks) (left : List OperandType) (read : List Op)
-    → IsReadTyped s stacks read → stacks.outer.items ≡ [] → OnOk result (Closes stacks left) → OnOk result (IsTyped s read)
-ok_all_read (Ok done) s stacks left read before alone closes = all_read s stacks left read before alone closes
-ok_all_read (Err fault) s stacks left read before alone closes = tt

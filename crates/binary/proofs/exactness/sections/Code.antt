@@ -10,6 +10,7 @@ use Rattle.meaning.specs.binary.Conventions.{Reads, SpellsEach}
 use Rattle.meaning.specs.binary.Modules.{SpellsCode, SpellsFunctionContent, SpellsLocalGroup, SpellsLocals, types_of}
 use Rattle.meaning.specs.binary.Values.{SpellsSized, SpellsUnsigned, SpellsVector}
 use Rattle.core_types.specs.reading.Conventions.{◌>>=◌}
+use Rattle.binary.specs.Expressions.{expression_at}
 use Rattle.binary.specs.Sections.{code_at, codes_at, function_content_at, functions_at, groups_at, local_group_at, locals_at}
 use Rattle.core_types.specs.reading.Values.{unsigned_at}
 use Rattle.binary.proofs.exactness.Expressions.{expression_reader}
@@ -143,7 +144,7 @@ SpellsContentOf ty bytes f = SpellsFunctionContent bytes f × (f.ty ≡ ty)
 abbrev func_of : ℕ → List ValType → List Op → Func
 func_of ty locals body = record { ty = ty; locals = locals; body = body }
 
-function_content_reader : (ty : ℕ) → IsReader (SpellsContentOf ty) (function_content_at ty)
+function_content_reader : (ty : ℕ) → IsReader (SpellsContentOf ty) (function_content_at expression_at ty)
 unfolding function_content_at
 function_content_reader ty = record {
   sound = λ bytes rest f e.
@@ -155,11 +156,11 @@ function_content_reader ty = record {
       ∙ ap (λ (index : ℕ). found (func_of index f.locals f.body) rest) (sym same);
 }
 
-code_reader : (ty : ℕ) → IsReader (SpellsSized (SpellsContentOf ty)) (code_at ty)
+code_reader : (ty : ℕ) → IsReader (SpellsSized (SpellsContentOf ty)) (code_at expression_at ty)
 unfolding code_at
 code_reader ty =
-    sized_reader (SpellsContentOf ty) (function_content_at ty)
-    (whole_reader (SpellsContentOf ty) (function_content_at ty) (function_content_reader ty))
+    sized_reader (SpellsContentOf ty) (function_content_at expression_at ty)
+    (whole_reader (SpellsContentOf ty) (function_content_at expression_at ty) (function_content_reader ty))
 
 -- ---- one function for each index
 
@@ -174,7 +175,7 @@ record ReadsCodes (front : List Func) (bytes : List ℕ) (funcs : List Func) (ty
   indices : type_indices more ≡ types
 
 codes_sound : (types : List ℕ) (front funcs : List Func) (bytes rest : List ℕ)
-    → codes_at types front bytes ≡ Some (funcs, rest) → ReadsCodes front bytes funcs types rest
+    → codes_at expression_at types front bytes ≡ Some (funcs, rest) → ReadsCodes front bytes funcs types rest
 unfolding codes_at
 codes_sound [] front funcs bytes rest e =
     let same = found-injective front funcs bytes rest e in
@@ -185,7 +186,7 @@ codes_sound [] front funcs bytes rest e =
       indices = refl;
     }
 codes_sound (ty ∷ types) front funcs bytes rest e =
-    let first = bind_some (code_at ty bytes) (λ f. codes_at types (front ++ f.0 ∷ []) f.1) (funcs, rest) e in
+    let first = bind_some (code_at expression_at ty bytes) (λ f. codes_at expression_at types (front ++ f.0 ∷ []) f.1) (funcs, rest) e in
     let head = (code_reader ty).sound bytes first.0.1 first.0.0 first.1 in
     let (size, content, parts, counted, (spelt, index)) = head.spelt in
     let others = codes_sound types (front ++ first.0.0 ∷ []) funcs first.0.1 rest first.2 in record {
@@ -204,14 +205,14 @@ codes_sound (ty ∷ types) front funcs bytes rest e =
     }
 
 codes_complete : (text rest : List ℕ) (front funcs : List Func) → SpellsEach SpellsCode text funcs
-    → codes_at (type_indices funcs) front (text ++ rest) ≡ Some (front ++ funcs, rest)
+    → codes_at expression_at (type_indices funcs) front (text ++ rest) ≡ Some (front ++ funcs, rest)
 unfolding codes_at
 codes_complete text rest front [] e =
     rw e (ap (λ (funcs : List Func). found funcs rest) (sym (append-nil front)))
 codes_complete text rest front (f ∷ funcs) (first, others, parts, (size, content, within, counted, spelt), more) =
     let regrouped : text ++ rest ≡ first ++ (others ++ rest) =
     ap (λ (z : List ℕ). z ++ rest) parts ∙ append_assoc first others rest in
-    ap (codes_at (type_indices (f ∷ funcs)) front) regrouped
+    ap (codes_at expression_at (type_indices (f ∷ funcs)) front) regrouped
     ∙ rw ((code_reader f.ty).complete first (others ++ rest) f (size, content, within, counted, (spelt, refl)))
     (codes_complete others rest (front ++ f ∷ []) funcs more)
     ∙ ap (λ (all : List Func). found all rest) (append_assoc front (f ∷ []) funcs)
@@ -220,14 +221,14 @@ codes_complete text rest front (f ∷ funcs) (first, others, parts, (size, conte
 abbrev pub SpellsFunctionsOf : List ℕ → List ℕ → List Func → Type 0
 SpellsFunctionsOf types bytes funcs = SpellsVector SpellsCode bytes funcs × (type_indices funcs ≡ types)
 
-pub functions_reader : (types : List ℕ) → IsReader (SpellsFunctionsOf types) (functions_at types)
+pub functions_reader : (types : List ℕ) → IsReader (SpellsFunctionsOf types) (functions_at expression_at types)
 unfolding functions_at
 functions_reader types = record {
   sound = λ bytes rest funcs e.
       let count =
       bind_some (unsigned_at 32 bytes)
-      (λ count. cond (eqb count.0 (length types)) (codes_at types [] count.1) None) (funcs, rest) e in
-      let equal = if_found (eqb count.0.0 (length types)) (codes_at types [] count.0.1) (funcs, rest) count.2 in
+      (λ count. cond (eqb count.0 (length types)) (codes_at expression_at types [] count.1) None) (funcs, rest) e in
+      let equal = if_found (eqb count.0.0 (length types)) (codes_at expression_at types [] count.0.1) (funcs, rest) count.2 in
       let first = (unsigned_reader 32).sound bytes count.0.1 count.0.0 count.1 in
       let others = codes_sound types [] funcs count.0.1 rest equal.1 in
       let indices : type_indices funcs ≡ types = ap type_indices others.all ∙ others.indices in
@@ -248,7 +249,7 @@ functions_reader types = record {
       let counted : length funcs ≡ length types =
       sym (length-map funcs (λ (f : Func). f.ty)) ∙ ap length indices in
       ap
-      (λ (z : List ℕ). unsigned_at 32 z >>= λ count. cond (eqb count.0 (length types)) (codes_at types [] count.1) None) regrouped
+      (λ (z : List ℕ). unsigned_at 32 z >>= λ count. cond (eqb count.0 (length types)) (codes_at expression_at types [] count.1) None) regrouped
       ∙ rw
       ((unsigned_reader 32).complete size (content ++ rest) (length funcs) spelt, eq-eqb _ _ counted, ← indices)
       (codes_complete content rest [] funcs each);

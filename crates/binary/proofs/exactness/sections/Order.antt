@@ -9,6 +9,7 @@ use Rattle.meaning.specs.binary.Modules.{HasValue, HasVector, IsCustomSections, 
 use Rattle.meaning.specs.binary.Values.{SpellsSized, SpellsVector}
 use Rattle.core_types.specs.reading.Conventions.{Reading, mapped_at, ◌>>=◌}
 use Rattle.binary.specs.Modules.{then_at}
+use Rattle.binary.specs.Expressions.{expression_at}
 use Rattle.binary.specs.Sections.{after_customs, end_at, functions_at, section_at}
 use Rattle.core_types.specs.reading.Values.{begins_with, vector_at}
 use Rattle.binary.specs.Values.{sized_at}
@@ -366,7 +367,7 @@ module _ (types : List ℕ) where
       inr (empty, rw (nothing, e) refl)
 
   abbrev pub code_section : IsSection 10 (HasVector 10 SpellsCode) (λ funcs. type_indices funcs ≡ types)
-      (functions_at types) no_code
+      (functions_at expression_at types) no_code
   code_section =
       record {
         Content = SpellsFunctionsOf types;

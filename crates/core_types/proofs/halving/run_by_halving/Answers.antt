@@ -8,7 +8,7 @@ loop-low-preserved-then-run-index c =
     record {
       ordered = omega arith;
       within = c.loop-low.invariant.within;
-      begins = begins_next c.args.runs.now _ c.args.index _ inside c.if-run-index.true;
+      begins = begins_next c.args.start c.args.runs.now _ c.args.index _ inside c.if-run-index.true;
       ends = c.loop-low.invariant.ends;
     }
 

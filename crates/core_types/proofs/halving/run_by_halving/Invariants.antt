@@ -6,7 +6,7 @@ abbrev pub invariant-loop-low : goal.invariant-loop-low
 invariant-loop-low l = record {
   ordered : l.low ≤ l.high;
   within : l.high ≤ length l.runs;
-  begins : start_of 0 l.runs l.low ≤ l.index;
+  begins : start_of l.start l.runs l.low ≤ l.index;
   ends : IfSome (slice_get l.runs l.high) (λ run. l.index < run.end);
 }
 

@@ -1,14 +1,13 @@
-use Rattle.binary.proofs.loops.Bodies.{first_and_left, left_encodes, only_for_memory}
+use Rattle.std.proofs.Common.{refl}
+use Rattle.std.proofs.lemmas.Result.{err_from_is_err_and}
+use Rattle.binary.proofs.loops.Bodies.{first_passes, refused_first}
 use Rattle.binary.proofs.loops.Values.{some_bytes}
 use Rattle.binary.proofs.bodies.BodyReader.memory.Goals as goal
 
-pub alloc_error-requires : goal.alloc_error-requires
-alloc_error-requires c =
-    only_for_memory c.self.inside.reader c.self.invariant c.in-Err.error (some_bytes c.self.inside.reader c.args.code (rw (← c.self.view_is) at c.requires.opcode))
-    (rw c.fork-here.ensures at c.in-Err.ensures)
+pub returns-in_err-op : goal.returns-in_err-op
+returns-in_err-op c =
+    let passed = err_from_is_err_and c.from_residual.result c.from_residual.ensures.1 in
+    rw (passed.1, passed.2, ← c.self.view_is) (refused_first _ _ (some_bytes _ c.args.code (rw (← c.self.view_is) at c.requires.opcode)) c.in_err-op.ensures)
 
-pub invariant_of-self : goal.invariant_of-self
-invariant_of-self c = left_encodes c.self.inside.reader c.self.invariant _ _ (rw c.fork-here.ensures at c.in-Ok.ensures)
-
-pub returns-in-Ok : goal.returns-in-Ok
-returns-in-Ok c = rw (← c.self.view_is) (first_and_left c.self.inside.reader c.self.invariant _ _ (rw c.fork-here.ensures at c.in-Ok.ensures))
+pub returns : goal.returns
+returns c = rw (← c.self.view_is) (first_passes _ _ _ _ _ c.in_ok-op.ensures (rw c.is_memory_op_of_data.ensures refl))

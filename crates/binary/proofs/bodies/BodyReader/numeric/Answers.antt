@@ -1,14 +1,10 @@
-use Rattle.binary.proofs.loops.Bodies.{first_and_left, left_encodes, only_for_memory}
-use Rattle.binary.proofs.loops.Values.{some_bytes}
+use Rattle.std.proofs.Common.{refl}
+use Rattle.core_types.specs.declared.op.Op.TheVariants as flat
+use Rattle.core_types.specs.declared.op.PlainOp.TheVariants as plain
+use Rattle.core_types.specs.declared.op.NumericOp.{NumericOp}
+use Rattle.binary.proofs.loops.Bodies.{unnamed_passes}
 use Rattle.binary.proofs.bodies.BodyReader.numeric.Goals as goal
 
-pub alloc_error-requires : goal.alloc_error-requires
-alloc_error-requires c =
-    only_for_memory c.self.inside.reader c.self.invariant c.in-Err.error (some_bytes c.self.inside.reader c.args.code (rw (← c.self.view_is) at c.requires.opcode))
-    (rw c.fork-here.ensures at c.in-Err.ensures)
-
-pub invariant_of-self : goal.invariant_of-self
-invariant_of-self c = left_encodes c.self.inside.reader c.self.invariant _ _ (rw c.fork-here.ensures at c.in-Ok.ensures)
-
-pub returns-in-Ok : goal.returns-in-Ok
-returns-in-Ok c = rw (← c.self.view_is) (first_and_left c.self.inside.reader c.self.invariant _ _ (rw c.fork-here.ensures at c.in-Ok.ensures))
+pub returns : goal.returns
+returns c = rw (← c.self.view_is)
+    (unnamed_passes (λ (x : NumericOp). flat.Plain (plain.Numeric x)) (λ x. refl) c.read_numeric_op.result _ _ c.args.code _ (rw (← c.self.view_is) at c.requires.opcode) c.read_numeric_op.ensures)

@@ -3,7 +3,7 @@ use Rattle.std.proofs.lemmas.Result.{err_from_is_err_and}
 use Rattle.meaning.specs.embedding.Machine.{IsDecoded}
 use Rattle.store.specs.Loaded.{LoadedContents}
 use Rattle.embed.proofs.lemmas.Causes.{decode-refuses, validate-refuses}
-use Rattle.embed.proofs.modules.load_module.Goals as goal
+use Rattle.embed.proofs.modules.load_in_turn.Goals as goal
 
 pub returns-in_err-decoded-clause-refused : goal.returns-in_err-decoded-clause-refused
 returns-in_err-decoded-clause-refused c =
