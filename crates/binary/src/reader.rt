@@ -1,4 +1,4 @@
-ghost use Rattle.std.specs.Prelude.{◌≡◌, ◌≢◌, ◌<◌, ◌==◌, ℕ, Some, [], length, drop, if◌then◌else◌, ◌^◌, ◌<ℤ◌, pos, OnOk, IfOk, IfErr};
+ghost use Rattle.std.specs.Prelude.{◌≡◌, ◌≢◌, ◌<◌, ◌≤◌, ◌==◌, ℕ, Some, [], length, drop, if◌then◌else◌, ◌^◌, ◌<ℤ◌, pos, OnOk, IfOk, IfErr};
 ghost use Rattle.binary.specs.Conventions.{Gives};
 ghost use Rattle.binary.specs.Errors.{OnRefused};
 ghost use Rattle.core_types.specs.reading.Values.{begins_negative, begins_with, byte_at, signed_at, unsigned_at};
@@ -11,25 +11,29 @@ use std::marker::Model;
 // A reader of the input, from left to right. Contracts see the bytes that are not read yet.
 #[derive(Drop)]
 pub struct Reader<'a> {
-    bytes: &'a [u8],
-    offset: usize,
+    rest: &'a [u8],
+    // the offset in the whole input at which the bytes end
+    end: usize,
 }
 
 impl<'a> Model for Reader<'a> {
-    ghost use Rattle.std.specs.Prelude.{ℕ, List, length, drop, ◌≤◌};
+    ghost use Rattle.std.specs.Prelude.{ℕ, List, length, ◌≤◌};
 
     ghost Value = { List ℕ };
 
-    ghost view = { λ a. drop a.offset a.bytes.now };
+    ghost view = { λ a. a.rest.now };
 
-    ghost invariant = { λ a. a.offset ≤ length a.bytes.now };
+    ghost invariant = { λ a. length a.rest.now ≤ a.end };
 }
 
 impl<'a> Reader<'a> {
     pub fn new(bytes: &'a [u8]) -> Reader<'a>
         ensures { result ≡ bytes.now }
     {
-        Reader { bytes, offset: 0 }
+        Reader {
+            rest: bytes,
+            end: bytes.len(),
+        }
     }
 
     // Returns another reader of the same bytes, at the same offset.
@@ -38,8 +42,8 @@ impl<'a> Reader<'a> {
         ensures { result ≡ self.now }
     {
         Reader {
-            bytes: self.bytes,
-            offset: self.offset,
+            rest: self.rest,
+            end: self.end,
         }
     }
 
@@ -48,20 +52,20 @@ impl<'a> Reader<'a> {
     pub fn is_empty(&self) -> bool
         ensures { result ≡ (length self.now == 0) }
     {
-        self.offset >= self.bytes.len()
+        self.rest.is_empty()
     }
 
     // Returns the offset in the whole input.
     #[inline(always)]
     pub fn offset(&self) -> usize {
-        self.offset
+        self.end - self.rest.len()
     }
 
     // Returns the bytes that are not read yet.
     pub fn rest(&self) -> &'a [u8]
         ensures { result.now ≡ self.now }
     {
-        &self.bytes[self.offset..]
+        self.rest
     }
 
     // Returns the next byte, if one is left.
@@ -69,10 +73,19 @@ impl<'a> Reader<'a> {
     pub fn peek(&self) -> Option<u8>
         ensures { result ≡ first_byte self.now }
     {
-        if self.offset >= self.bytes.len() {
+        if self.rest.is_empty() {
             return None;
         }
-        Some(self.bytes[self.offset])
+        Some(self.rest[0])
+    }
+
+    // Skips that many bytes.
+    #[inline(always)]
+    fn advance(&mut self, count: usize)
+        requires { count ≤ length self.old }
+        ensures { self.new ≡ drop count self.old }
+    {
+        self.rest = &self.rest[count..];
     }
 
     // Skips the next byte.
@@ -82,14 +95,14 @@ impl<'a> Reader<'a> {
         ensures { (byte : ℕ) → first_byte self.old ≡ Some byte
             → byte_at self.old ≡ Some (byte, self.new) }
     {
-        self.offset += 1;
+        self.advance(1);
     }
 
     // Skips all bytes that are left.
     pub fn skip_rest(&mut self)
         ensures { self.new ≡ [] }
     {
-        self.offset = self.bytes.len();
+        self.advance(self.rest.len());
     }
 
     // Skips the next byte if it is this one. Returns whether it is.
@@ -98,10 +111,10 @@ impl<'a> Reader<'a> {
         ensures accepted { result ≡ begins_with byte self.old }
         ensures rest { self.new ≡ (if result then drop 1 self.old else self.old) }
     {
-        if self.offset >= self.bytes.len() || self.bytes[self.offset] != byte {
+        if self.rest.is_empty() || self.rest[0] != byte {
             return false;
         }
-        self.offset += 1;
+        self.advance(1);
         true
     }
 
@@ -111,7 +124,7 @@ impl<'a> Reader<'a> {
         ensures refused { IfErr result (λ error. OnRefused error (self.now ≢ [])) }
     {
         if !self.is_empty() {
-            return Err(DecodeError::Malformed(self.offset));
+            return Err(DecodeError::Malformed(self.offset()));
         }
         Ok(())
     }
@@ -120,11 +133,11 @@ impl<'a> Reader<'a> {
     pub fn byte(&mut self) -> Result<u8, DecodeError>
         ensures { Gives result self.new (byte_at self.old) }
     {
-        if self.offset >= self.bytes.len() {
-            return Err(DecodeError::Malformed(self.offset));
+        if self.rest.is_empty() {
+            return Err(DecodeError::Malformed(self.offset()));
         }
-        let byte = self.bytes[self.offset];
-        self.offset += 1;
+        let byte = self.rest[0];
+        self.advance(1);
         Ok(byte)
     }
 
@@ -133,10 +146,10 @@ impl<'a> Reader<'a> {
     pub fn u32(&mut self) -> Result<u32, DecodeError>
         ensures { Gives result self.new (unsigned_at 32 self.old) }
     {
-        let Some((value, end)) = read_u32(self.bytes, self.offset) else {
-            return Err(DecodeError::Malformed(self.offset));
+        let Some((value, end)) = read_u32(self.rest, 0) else {
+            return Err(DecodeError::Malformed(self.offset()));
         };
-        self.offset = end;
+        self.advance(end);
         Ok(value)
     }
 
@@ -145,10 +158,10 @@ impl<'a> Reader<'a> {
     pub fn s32(&mut self) -> Result<i32, DecodeError>
         ensures { Gives result self.new (signed_at 32 self.old) }
     {
-        let Some((value, end)) = read_s32(self.bytes, self.offset) else {
-            return Err(DecodeError::Malformed(self.offset));
+        let Some((value, end)) = read_s32(self.rest, 0) else {
+            return Err(DecodeError::Malformed(self.offset()));
         };
-        self.offset = end;
+        self.advance(end);
         Ok(value)
     }
 
@@ -157,10 +170,10 @@ impl<'a> Reader<'a> {
         ensures gives { Gives result self.new (signed_at 33 self.old) }
         ensures range { IfOk result (λ value. value <ℤ pos (2 ^ 32)) }
     {
-        let Some((value, end)) = read_s33(self.bytes, self.offset) else {
-            return Err(DecodeError::Malformed(self.offset));
+        let Some((value, end)) = read_s33(self.rest, 0) else {
+            return Err(DecodeError::Malformed(self.offset()));
         };
-        self.offset = end;
+        self.advance(end);
         Ok(value)
     }
 
@@ -168,10 +181,10 @@ impl<'a> Reader<'a> {
     pub fn s64(&mut self) -> Result<i64, DecodeError>
         ensures { Gives result self.new (signed_at 64 self.old) }
     {
-        let Some((value, end)) = read_s64(self.bytes, self.offset) else {
-            return Err(DecodeError::Malformed(self.offset));
+        let Some((value, end)) = read_s64(self.rest, 0) else {
+            return Err(DecodeError::Malformed(self.offset()));
         };
-        self.offset = end;
+        self.advance(end);
         Ok(value)
     }
 
@@ -188,16 +201,12 @@ impl<'a> Reader<'a> {
         ensures { Gives result self.new (part_at self.old) }
     {
         let size = self.u32()? as usize;
-        if self.bytes.len() - self.offset < size {
-            return Err(DecodeError::Malformed(self.offset));
+        if self.rest.len() < size {
+            return Err(DecodeError::Malformed(self.offset()));
         }
-        let offset = self.offset;
-        let end = offset + size;
-        let bytes = self.bytes;
-        self.offset = end;
-        Ok(Reader {
-            bytes: &bytes[..end],
-            offset,
-        })
+        let end = self.end - (self.rest.len() - size);
+        let part = &self.rest[..size];
+        self.advance(size);
+        Ok(Reader { rest: part, end })
     }
 }

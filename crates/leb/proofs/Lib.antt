@@ -1,4 +1,3 @@
-pub mod LastBytes
 pub mod PrefixFree
 pub mod SignedLaws
 pub mod UnsignedLaws

@@ -1,7 +1,6 @@
 //! Reads the integers of the binary format, which are encoded with seven bits per byte (LEB128).
 #![tactic(auto)]
 
-mod fronts;
 mod laws;
 mod signed;
 mod unsigned;

@@ -1,9 +1,13 @@
-ghost use Rattle.std.specs.Prelude.{◌^◌, ◌<◌, ◌↔◌, IsTrue};
+use std::marker::PhantomData;
 
-// Returns whether the 7-bit number also fits in `bits` bits.
-pub fn is_within(bits: u32, number: u8) -> bool
-    requires { number < 2 ^ 7 }
-    ensures { IsTrue result ↔ (number < 2 ^ bits) }
-{
-    bits >= 7 || number < 1 << bits
-}
+// One bit, for the last byte.
+pub struct One;
+
+// Four bits, for the last byte.
+pub struct Four;
+
+// Five bits, for the last byte.
+pub struct Five;
+
+// Seven bits for a byte that is not the last, and those of the rest.
+pub struct More<R>(PhantomData<R>);

@@ -40,7 +40,7 @@ module _ (s : Signatures) (outermost : ℕ) (old new : Flattening) (type : Block
   c = block_counts s type
 
   abbrev h : Option ℕ
-  h = old.height
+  h = old.heights.here
 
   abbrev at : ℕ
   at = length old.operations.items
@@ -90,9 +90,9 @@ module _ (s : Signatures) (outermost : ℕ) (old new : Flattening) (type : Block
         Enter,
         record { same = refl; within = tt {0} },
         record {
-          operations = nested-left s (entry_of_number final outermost) (made final old.operations.items) old.greatest (open_bodies final old.levels) h type (rests ops)
+          operations = nested-left s (entry_of_number final outermost) (made final old.operations.items) old.heights.greatest (open_bodies final old.levels) h type (rests ops)
               (open_body final level) BlockKind none is;
-          heights = nested-heights s (entry_of_number final outermost) (made final old.operations.items) old.greatest (open_bodies final old.levels) h type (rests ops)
+          heights = nested-heights s (entry_of_number final outermost) (made final old.operations.items) old.heights.greatest (open_bodies final old.levels) h type (rests ops)
               (open_body final level) BlockKind none is;
         },
       ))
@@ -113,9 +113,9 @@ module _ (s : Signatures) (outermost : ℕ) (old new : Flattening) (type : Block
         Enter,
         record { same = refl; within = tt {0} },
         record {
-          operations = nested-left s (entry_of_number final outermost) (made final old.operations.items) old.greatest (open_bodies final old.levels) h type (rests ops)
+          operations = nested-left s (entry_of_number final outermost) (made final old.operations.items) old.heights.greatest (open_bodies final old.levels) h type (rests ops)
               (open_body final level) LoopKind none is;
-          heights = nested-heights s (entry_of_number final outermost) (made final old.operations.items) old.greatest (open_bodies final old.levels) h type (rests ops)
+          heights = nested-heights s (entry_of_number final outermost) (made final old.operations.items) old.heights.greatest (open_bodies final old.levels) h type (rests ops)
               (open_body final level) LoopKind none is;
         },
       ))
@@ -142,7 +142,7 @@ module _ (s : Signatures) (outermost : ℕ) (old new : Flattening) (type : Block
         → (Closes (If type ∷ ops) (map allows_else old.levels)
         → targets_left outermost (level ∷ old.levels) (suc at) (rests ops) ≡ targets_of level.pending level.label place end ++ targets_left outermost old.levels at (rests (If type ∷ ops)))
         → (Closes (If type ∷ ops) (map allows_else old.levels) → (final : SideTables) → EndsBehind count [] (aimed_at end first ∷ (aimed_at place second ∷ [])) final.entries.items
-        → (o : FlatOp) × Packs final (packed.If (suc count)) o × GoesOn s (entry_of_number final outermost) (made final old.operations.items) old.greatest (open_bodies final old.levels) h
+        → (o : FlatOp) × Packs final (packed.If (suc count)) o × GoesOn s (entry_of_number final outermost) (made final old.operations.items) old.heights.greatest (open_bodies final old.levels) h
         (If type) ops o (open_body final level ∷ open_bodies final old.levels) level.inside)
         → PassesTo s outermost old (If type ∷ ops) ops new
     passes-at place end targets goes =
@@ -164,11 +164,11 @@ module _ (s : Signatures) (outermost : ℕ) (old new : Flattening) (type : Block
           IfOp (entry_of (suc (length (made final old.operations.items)) + size (rests ops).here.body) c.takes (base_height IfKind c h)),
           start final (first-end ops) _ (made-end final ops) other.0 other.1,
           record {
-            operations = single-if-left s (entry_of_number final outermost) (made final old.operations.items) old.greatest (open_bodies final old.levels) h type (rests ops)
-                (open_body final level) none ∙ nested-left s (entry_of_number final outermost) (made final old.operations.items) old.greatest (open_bodies final old.levels) h type
+            operations = single-if-left s (entry_of_number final outermost) (made final old.operations.items) old.heights.greatest (open_bodies final old.levels) h type (rests ops)
+                (open_body final level) none ∙ nested-left s (entry_of_number final outermost) (made final old.operations.items) old.heights.greatest (open_bodies final old.levels) h type
                 (rests ops) (open_body final level) IfKind none is;
-            heights = single-if-heights s (entry_of_number final outermost) (made final old.operations.items) old.greatest (open_bodies final old.levels) h type (rests ops)
-                (open_body final level) none ∙ nested-heights s (entry_of_number final outermost) (made final old.operations.items) old.greatest (open_bodies final old.levels) h type
+            heights = single-if-heights s (entry_of_number final outermost) (made final old.operations.items) old.heights.greatest (open_bodies final old.levels) h type (rests ops)
+                (open_body final level) none ∙ nested-heights s (entry_of_number final outermost) (made final old.operations.items) old.heights.greatest (open_bodies final old.levels) h type
                 (rests ops) (open_body final level) IfKind none is;
           },
         ))
@@ -186,9 +186,9 @@ module _ (s : Signatures) (outermost : ℕ) (old new : Flattening) (type : Block
           IfOp (entry_of (suc (suc (length (made final old.operations.items)) + size (rests ops).here.body)) c.takes (base_height IfKind c h)),
           start final second_place _ (ap suc (made-end final ops)) later.0 later.1,
           record {
-            operations = both-left s (entry_of_number final outermost) (made final old.operations.items) old.greatest (open_bodies final old.levels) h type (rests ops)
+            operations = both-left s (entry_of_number final outermost) (made final old.operations.items) old.heights.greatest (open_bodies final old.levels) h type (rests ops)
                 (open_body final level) other some is;
-            heights = both-heights s (entry_of_number final outermost) (made final old.operations.items) old.greatest (open_bodies final old.levels) h type (rests ops)
+            heights = both-heights s (entry_of_number final outermost) (made final old.operations.items) old.heights.greatest (open_bodies final old.levels) h type (rests ops)
                 (open_body final level) other some is;
           },
         ))

@@ -8,7 +8,7 @@ use Rattle.core_types.specs.declared.op.Op.{Op}
 use Rattle.core_types.specs.declared.op.Op.TheVariants as op
 use Rattle.meaning.specs.structure.Bodies.{Body, rests}
 use Rattle.sidetable.specs.Completion.{ChangesEntries, Completes, IsLabelSince, ranges_since, with_targets}
-use Rattle.sidetable.specs.Counts.{Signatures, height_or_zero}
+use Rattle.sidetable.specs.Counts.{GoesOnAt, Signatures, height_or_zero}
 use Rattle.sidetable.specs.Flat.{FlatOp, Jump}
 use Rattle.sidetable.specs.Flattening.{EndsAs, IsBegun, IsOpen, PassesTo, greatest_left, left, targets_left}
 use Rattle.sidetable.specs.Labels.{IsOpenLevel, OpenBody, allows_else, has_second, open_bodies, open_body, second_targets, targets_of}
@@ -22,7 +22,7 @@ use Rattle.sidetable.specs.declared.labels.Pending.TheVariants.{Nothing, End, Se
 use Rattle.sidetable.specs.declared.operations.PackedOp.TheVariants as packed
 use Rattle.sidetable.specs.declared.operations.TransferInstruction.TheVariants as transfer
 use Rattle.sidetable.proofs.Completing.{AreLabels, completes-aimed, copies-aimed, final-within, grows-aimed, label-aimed}
-use Rattle.sidetable.proofs.Left.{greatest-else, greatest-end, left-else, left-end}
+use Rattle.sidetable.proofs.Left.{heights-on, greatest-else, greatest-end, left-else, left-end}
 use Rattle.sidetable.proofs.Making.{makes-on}
 use Rattle.sidetable.proofs.Passing.{never-passed}
 use Rattle.sidetable.proofs.Shapes.{no-else}
@@ -54,8 +54,7 @@ levels-aimed before old new ts levels changed are =
 
 module _ (s : Signatures) (outermost : ℕ) (old new : Flattening) (level : Level) (levels : List Level) (place : ℕ) (levels_are : old.levels ≡ level ∷ levels)
     (new_levels : new.levels ≡ in_second level ∷ levels)
-    (items : new.operations.items ≡ old.operations.items ++ (packed.Transfer transfer.Jump level.label ∷ [])) (greatest_is : new.greatest ≡ max old.greatest (height_or_zero old.height))
-    (height_is : new.height ≡ level.inside)
+    (items : new.operations.items ≡ old.operations.items ++ (packed.Transfer transfer.Jump level.label ∷ [])) (goes : GoesOnAt old.heights level.inside new.heights)
     (place_is : place ≡ suc (length old.operations.items)) (tables : ChangesEntries old.tables new.tables (with_targets old.tables.entries.items (second_targets level.pending place)))
     (ops : List Op) where
   to-come : Closes (op.Else ∷ ops) (map allows_else old.levels) → (number : ℕ) × (level.pending ≡ SecondAndEnd number) × Closes ops (false ∷ map allows_else levels)
@@ -111,13 +110,13 @@ module _ (s : Signatures) (outermost : ℕ) (old new : Flattening) (level : Leve
         let before_ops = made final old.operations.items in
         let e = entry_of_number final outermost in
         let jump : FlatOp = Jump (entry_of_number final level.label) in
-        makes-on s final outermost old new (packed.Transfer transfer.Jump level.label) jump level.inside (record { same = refl; within = within }) items greatest_is height_is op.Else ops whole most
+        makes-on s final outermost old new (packed.Transfer transfer.Jump level.label) jump level.inside (record { same = refl; within = within }) items goes op.Else ops whole most
         (rw (levels_are, new_levels) (record {
-          operations = left-else s e before_ops (open_body final level) (open_bodies final levels) old.height (rests ops).around (rests ops).here.body
+          operations = left-else s e before_ops (open_body final level) (open_bodies final levels) old.heights.here (rests ops).around (rests ops).here.body
               ∙ ap (λ (x : Option Body). (before_ops ++ (jump ∷ [])) ++ left s e (bodies final) level.inside (length (before_ops ++ (jump ∷ [])))
               (record { here = record { body = (rests ops).here.body; other = x }; around = (rests ops).around })) (sym none);
-          heights = greatest-else s old.greatest (open_body final level) (open_bodies final levels) old.height (rests ops).around (rests ops).here.body
-              ∙ ap (λ (x : Option Body). max (max old.greatest (height_or_zero old.height))
+          heights = greatest-else s old.heights.greatest (open_body final level) (open_bodies final levels) old.heights.here (rests ops).around (rests ops).here.body
+              ∙ ap (λ (x : Option Body). max (max old.heights.greatest (height_or_zero old.heights.here))
               (greatest_left s (bodies final) level.inside (record { here = record { body = (rests ops).here.body; other = x }; around = (rests ops).around }))) (sym none);
         })) m;
   }
@@ -125,7 +124,7 @@ module _ (s : Signatures) (outermost : ℕ) (old new : Flattening) (level : Leve
 -- ---- an end
 
 module _ (s : Signatures) (outermost : ℕ) (old new : Flattening) (level : Level) (end : ℕ) (levels_are : old.levels ≡ level ∷ new.levels) (items : new.operations.items ≡ old.operations.items)
-    (greatest_is : new.greatest ≡ max old.greatest (height_or_zero old.height)) (height_is : new.height ≡ level.after) (end_is : end ≡ length old.operations.items)
+    (goes : GoesOnAt old.heights level.after new.heights) (end_is : end ≡ length old.operations.items)
     (tables : ChangesEntries old.tables new.tables (with_targets old.tables.entries.items (targets_of level.pending level.label end end))) (ops : List Op) where
   abbrev ended : List (ℕ × ℕ)
   ended = targets_of level.pending level.label end end
@@ -161,11 +160,11 @@ module _ (s : Signatures) (outermost : ℕ) (old new : Flattening) (level : Leve
         let before_ops = made final old.operations.items in
         let size : length old.operations.items ≡ length before_ops = sym (length-map old.operations.items (unpacked final)) in
         record {
-          operations = rw (items, height_is, size) (sym
-              (left-end s (entry_of_number final outermost) before_ops (open_body final level) (open_bodies final new.levels) old.height (rests ops).around (rests ops).here) ∙
+          operations = rw (items, goes.here, size) (sym
+              (left-end s (entry_of_number final outermost) before_ops (open_body final level) (open_bodies final new.levels) old.heights.here (rests ops).around (rests ops).here) ∙
               (rw (levels_are, size) at m.operations));
-          heights = rw (greatest_is, height_is) (sym (greatest-end s old.greatest (open_body final level) (open_bodies final new.levels) old.height (rests ops).around (rests ops).here)
-              ∙ (rw levels_are at m.heights));
+          heights = heights-on s (open_bodies final new.levels) old.heights new.heights level.after (rests ops) most goes
+              (sym (greatest-end s old.heights.greatest (open_body final level) (open_bodies final new.levels) old.heights.here (rests ops).around (rests ops).here) ∙ (rw levels_are at m.heights));
           within = rw items m.within;
         };
   }

@@ -71,7 +71,7 @@ module _ (whole : (body : Body) → (rests (writing body)).here.body ≡ body) (
   passes = rw begins.types at all.passes
 
   abbrev most : ℕ
-  most = max last.flattening.greatest (height_or_zero last.flattening.height)
+  most = max last.flattening.heights.greatest (height_or_zero last.flattening.heights.here)
 
   abbrev one : PackedFunction
   one = with_greatest first.function most

@@ -1,5 +1,5 @@
 -- The rest, after one operation.
-use Rattle.std.proofs.Common.{◌≡◌, ℕ, suc, ◌+◌, max, List, [], ◌∷◌, ◌++◌, length, refl, ap, sym, ◌∙◌, add-zero, arith, append_assoc, length-append}
+use Rattle.std.proofs.Common.{◌≡◌, ℕ, suc, ◌+◌, ◌≤◌, max, List, [], ◌∷◌, ◌++◌, length, refl, ap, sym, ◌∙◌, add-zero, arith, append_assoc, length-append}
 use Rattle.std.specs.Prelude.{Option, Some, None}
 use Rattle.core_types.specs.declared.op.BlockType.{BlockType}
 use Rattle.core_types.specs.declared.op.PlainOp.{PlainOp}
@@ -7,7 +7,7 @@ use Rattle.meaning.specs.structure.Bodies.{Body, Part, Rests, Kind, IfKind, Empt
 use Rattle.sidetable.specs.declared.counts.Counts.{Counts}
 use Rattle.sidetable.specs.declared.operations.Entry.{Entry}
 use Rattle.sidetable.specs.Labels.{OpenBody, all_entries}
-use Rattle.sidetable.specs.Counts.{Signatures, behind, block_counts, counts_of, height_or_zero}
+use Rattle.sidetable.specs.Counts.{GoesOnAt, HeightsSoFar, Signatures, behind, block_counts, counts_of, height_or_zero}
 use Rattle.sidetable.specs.Flat.{FlatOp, Jump, If, base_height, behind_height, entry_of, flat, flat_op, greatest, inside_height, label_entry, size, start_op}
 use Rattle.sidetable.specs.Flattening.{greatest_around, greatest_left, left, left_around}
 
@@ -151,3 +151,15 @@ module _ (s : Signatures) (g : ℕ) (l : OpenBody) (levels : List OpenBody) (h :
   pub greatest-end : (part : Part) → max g (greatest_left s (l ∷ levels) h (record { here = nothing_left; around = part ∷ around }))
       ≡ max (max g (height_or_zero h)) (greatest_left s levels l.after (record { here = part; around = around }))
   greatest-end part = omega arith
+
+-- The greatest height of what is left is at least the one here.
+first-within : (s : Signatures) (h : Option ℕ) (body : Body) → height_or_zero h ≤ greatest s h body
+first-within s h Empty = omega arith
+first-within s h (Then op rest) = omega arith
+first-within s h (Nested kind type inner rest) = omega arith
+first-within s h (IfElse type inner other rest) = omega arith
+
+-- What goes on at a height has the same greatest height as before.
+pub heights-on : (s : Signatures) (bodies : List OpenBody) (old new : HeightsSoFar) (h : Option ℕ) (r : Rests) (most : ℕ) → GoesOnAt old h new
+    → max (max old.greatest (height_or_zero old.here)) (greatest_left s bodies h r) ≡ most → max new.greatest (greatest_left s bodies new.here r) ≡ most
+heights-on s bodies old new h r most goes whole = rw (goes.greatest, goes.here) (omega (arith, goes.within, first-within s h r.here.body, whole))

@@ -6,7 +6,7 @@ use Rattle.std.specs.Prelude.{Option, Some, None}
 use Rattle.core_types.specs.declared.op.BlockType.{BlockType}
 use Rattle.core_types.specs.declared.op.Op.{Op}
 use Rattle.meaning.specs.structure.Bodies.{Body, Rests, Kind, IfKind, Nested, first_part, if_with, other_parts, rests}
-use Rattle.sidetable.specs.Counts.{Signatures, block_counts, height_or_zero}
+use Rattle.sidetable.specs.Counts.{GoesOnAt, Signatures, block_counts, height_or_zero}
 use Rattle.sidetable.specs.Flat.{FlatOp, base_height, entry_of, inside_height, label_entry, size, start_op}
 use Rattle.sidetable.specs.Flat.{If as IfOp}
 use Rattle.sidetable.specs.Flattening.{Makes, greatest_left, left}
@@ -16,7 +16,7 @@ use Rattle.sidetable.specs.SideTables.{SideTables, entry_of_number}
 use Rattle.sidetable.specs.declared.flattening.Flattening.{Flattening}
 use Rattle.sidetable.specs.declared.operations.Entry.{Entry}
 use Rattle.sidetable.specs.declared.operations.PackedOp.{PackedOp}
-use Rattle.sidetable.proofs.Left.{body_for, greatest-both, greatest-nested, left-both, left-nested}
+use Rattle.sidetable.proofs.Left.{body_for, greatest-both, greatest-nested, heights-on, left-both, left-nested}
 
 -- ---- one more operation
 
@@ -27,7 +27,7 @@ pub record GoesOn (s : Signatures) (outermost : Entry) (before : List FlatOp) (g
   pub heights : max g (greatest_left s bodies h (rests (op ∷ ops))) ≡ max (max g (height_or_zero h)) (greatest_left s later height (rests ops))
 
 module _ (s : Signatures) (final : SideTables) (outermost : ℕ) (old new : Flattening) (p : PackedOp) (o : FlatOp) (height : Option ℕ) (packs : Packs final p o)
-    (items : new.operations.items ≡ old.operations.items ++ (p ∷ [])) (greatest_is : new.greatest ≡ max old.greatest (height_or_zero old.height)) (height_is : new.height ≡ height) where
+    (items : new.operations.items ≡ old.operations.items ++ (p ∷ [])) (goes : GoesOnAt old.heights height new.heights) where
   abbrev before : List FlatOp
   before = made final old.operations.items
 
@@ -41,11 +41,11 @@ module _ (s : Signatures) (final : SideTables) (outermost : ℕ) (old new : Flat
   new-size = sym (length-map new.operations.items (unpacked final)) ∙ ap length made-is
 
   pub makes-on : (op : Op) (ops : List Op) (whole : List FlatOp) (most : ℕ)
-      → GoesOn s (entry_of_number final outermost) before old.greatest (open_bodies final old.levels) old.height op ops o (open_bodies final new.levels) height
+      → GoesOn s (entry_of_number final outermost) before old.heights.greatest (open_bodies final old.levels) old.heights.here op ops o (open_bodies final new.levels) height
       → Makes s final outermost old (op ∷ ops) whole most → Makes s final outermost new ops whole most
   makes-on op ops whole most on m = record {
-    operations = rw (made-is, new-size, height_is) (sym on.operations ∙ (rw old-size at m.operations));
-    heights = rw (greatest_is, height_is) (sym on.heights ∙ m.heights);
+    operations = rw (made-is, new-size, goes.here) (sym on.operations ∙ (rw old-size at m.operations));
+    heights = heights-on s (open_bodies final new.levels) old.heights new.heights height (rests ops) most goes (sym on.heights ∙ m.heights);
     within = rw items (All-push (IsWithin final) old.operations.items p m.within packs.within);
   }
 

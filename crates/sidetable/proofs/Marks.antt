@@ -1,5 +1,5 @@
 -- A mark that begins a body is passed.
-use Rattle.std.proofs.Common.{◌≡◌, ℕ, suc, ◌+◌, ◌<◌, ◌≤◌, max, List, [], ◌∷◌, ◌++◌, length, map, refl, ap, ap₂, sym, subst, ◌∙◌, arith, length-append}
+use Rattle.std.proofs.Common.{◌≡◌, ℕ, suc, ◌+◌, ◌<◌, ◌≤◌, List, [], ◌∷◌, ◌++◌, length, map, refl, ap, ap₂, sym, subst, ◌∙◌, arith, length-append}
 use Rattle.std.proofs.lemmas.List.{append-nil, append_assoc, get_or_at}
 use Rattle.std.proofs.lemmas.List.Elements.{All-cons, All-nil}
 use Rattle.std.specs.List.{All}
@@ -7,7 +7,7 @@ use Rattle.std.specs.Prelude.{Option}
 use Rattle.core_types.specs.declared.op.Op.{Op}
 use Rattle.meaning.specs.structure.Bodies.{rests}
 use Rattle.sidetable.specs.Completion.{Adds, ChangesEntries, Completes, EndsBehind, IsLabelSince, entry_in, ranges_since, with_targets}
-use Rattle.sidetable.specs.Counts.{Signatures, height_or_zero}
+use Rattle.sidetable.specs.Counts.{GoesOnAt, Signatures}
 use Rattle.sidetable.specs.Flat.{FlatOp}
 use Rattle.sidetable.specs.Flattening.{EndsAs, IsBegun, IsOpen, PassesTo, Pushes, targets_left}
 use Rattle.sidetable.specs.Labels.{IfSecond, IsOpenLevel, allows_else, open_bodies, open_body, targets_of}
@@ -33,8 +33,7 @@ pub record Begins (old : Flattening) (p : PackedOp) (level : Level) (added : Lis
   pub tables : ChangesEntries old.tables new.tables (old.tables.entries.items ++ added)
   pub levels : new.levels ≡ level ∷ old.levels
   pub operations : new.operations.items ≡ old.operations.items ++ (p ∷ [])
-  pub greatest : new.greatest ≡ max old.greatest (height_or_zero old.height)
-  pub height : new.height ≡ level.inside
+  pub heights : GoesOnAt old.heights level.inside new.heights
 
 same-level : (l m : Level) → l.label ≡ m.label → l.pending ≡ m.pending → l.inside ≡ m.inside → l.after ≡ m.after → l ≡ m
 same-level l m labels pendings insides afters = ap₂ (λ (n : ℕ) (p : Pending). of n p l.inside l.after) labels pendings ∙ ap₂ (of m.label m.pending) insides afters
@@ -46,13 +45,12 @@ same-level l m labels pendings insides afters = ap₂ (λ (n : ℕ) (p : Pending
 pub begins-so : (old pushed : Flattening) (tables : SideTables) (levels : List Level) (p : PackedOp) (l level : Level) (es added : List Entry)
     → ChangesEntries old.tables tables (old.tables.entries.items ++ es) → es ≡ added
     → Pushes (with-tables old tables) p l.inside pushed → levels ≡ l ∷ pushed.levels → l.label ≡ level.label → l.pending ≡ level.pending → l.inside ≡ level.inside → l.after ≡ level.after
-    → Begins old p level added (record { tables = pushed.tables; operations = pushed.operations; levels = levels; height = pushed.height; greatest = pushed.greatest })
+    → Begins old p level added (record { tables = pushed.tables; operations = pushed.operations; levels = levels; heights = pushed.heights })
 begins-so old pushed tables levels p l level es added changed same pushes levels_are labels pendings insides afters = record {
   tables = rw pushes.tables (subst (λ (xs : List Entry). ChangesEntries old.tables tables (old.tables.entries.items ++ xs)) same changed);
   levels = levels_are ∙ ap₂ (λ (m : Level) (ls : List Level). m ∷ ls) (same-level l level labels pendings insides afters) pushes.levels;
   operations = pushes.operations;
-  greatest = pushes.greatest;
-  height = pushes.height ∙ insides;
+  heights = subst (λ (h : Option ℕ). GoesOnAt old.heights h pushed.heights) insides pushes.heights;
 }
 
 -- The number is that of an entry that was pushed.
@@ -83,7 +81,7 @@ module _ (s : Signatures) (outermost : ℕ) (old new : Flattening) (p : PackedOp
       → targets_left outermost (level ∷ old.levels) (suc (length old.operations.items)) (rests ops) ≡ targets_of level.pending level.label second end ++ targets_left outermost old.levels
       (length old.operations.items) (rests (op ∷ ops)))
       (goes : Closes (op ∷ ops) (map allows_else old.levels) → (final : SideTables) → EndsBehind (length old.tables.entries.items) [] aimed final.entries.items
-      → (o : FlatOp) × Packs final p o × GoesOn s (entry_of_number final outermost) (made final old.operations.items) old.greatest (open_bodies final old.levels) old.height op ops o
+      → (o : FlatOp) × Packs final p o × GoesOn s (entry_of_number final outermost) (made final old.operations.items) old.heights.greatest (open_bodies final old.levels) old.heights.here op ops o
       (open_body final level ∷ open_bodies final old.levels) level.inside) where
     both : (before final : SideTables) → IsOpen before outermost old (op ∷ ops) → EndsAs before outermost new ops final
         → EndsAs before outermost old (op ∷ ops) final × EndsBehind (length old.tables.entries.items) [] aimed final.entries.items
@@ -115,8 +113,8 @@ module _ (s : Signatures) (outermost : ℕ) (old new : Flattening) (p : PackedOp
       ends = λ before final opened ends. (both before final opened ends).0;
       makes = λ before final whole most opened ends m.
           let (o, packs, on) = goes opened.shape final (both before final opened ends).1 in
-          makes-on s final outermost old new p o level.inside packs begins.operations begins.greatest begins.height op ops whole most
-          (subst (λ (ls : List Level). GoesOn s (entry_of_number final outermost) (made final old.operations.items) old.greatest (open_bodies final old.levels) old.height op ops o
+          makes-on s final outermost old new p o level.inside packs begins.operations begins.heights op ops whole most
+          (subst (λ (ls : List Level). GoesOn s (entry_of_number final outermost) (made final old.operations.items) old.heights.greatest (open_bodies final old.levels) old.heights.here op ops o
           (open_bodies final ls) level.inside) (sym begins.levels) on) m;
     }
 

@@ -8,7 +8,7 @@ use Rattle.core_types.specs.declared.op.Op.TheVariants.{Plain}
 use Rattle.core_types.specs.declared.op.PlainOp.{PlainOp}
 use Rattle.meaning.specs.structure.Bodies.{rests}
 use Rattle.sidetable.specs.Completion.{Adds, Completes, IsLabelSince, HasAdded}
-use Rattle.sidetable.specs.Counts.{Signatures, behind, counts_of}
+use Rattle.sidetable.specs.Counts.{GoesOnAt, Signatures, behind, counts_of}
 use Rattle.sidetable.specs.Flat.{flat_op}
 use Rattle.sidetable.specs.Flattening.{EndsAs, IsBegun, IsOpen, Passes, PassesTo, Pushes, targets_left}
 use Rattle.sidetable.specs.Labels.{HaveEntries, IsOpenLevel, allows_else, label_entries, open_bodies}
@@ -29,7 +29,7 @@ use Rattle.sidetable.proofs.TargetsLeft.{HoldsOfLevel, holds-around, second-weak
 
 -- With other side tables.
 abbrev pub with-tables : Flattening → SideTables → Flattening
-with-tables f tables = record { tables = tables; operations = f.operations; levels = f.levels; height = f.height; greatest = f.greatest }
+with-tables f tables = record { tables = tables; operations = f.operations; levels = f.levels; heights = f.heights }
 
 -- ---- some operations, and then others
 
@@ -92,7 +92,7 @@ levels-more before old new levels grows adds are =
 
 module _ (s : Signatures) (outermost : ℕ) (old new : Flattening) (p : PackedOp) (op : PlainOp) (after : Option ℕ) (adds : Adds old.tables new.tables)
     (packs : (final : SideTables) → HasAdded old.tables new.tables final → Packs final p (flat_op (entry_of_number final outermost) (label_entries final outermost old.levels) op))
-    (after_is : after ≡ behind (counts_of s op) old.height) (pushes : Pushes (with-tables old new.tables) p after new) (ops : List Op) where
+    (after_is : after ≡ behind (counts_of s op) old.heights.here) (pushes : Pushes (with-tables old new.tables) p after new) (ops : List Op) where
   targets : List (ℕ × ℕ)
   targets = targets_left outermost old.levels (length old.operations.items) (rests (Plain op ∷ ops))
 
@@ -116,19 +116,19 @@ module _ (s : Signatures) (outermost : ℕ) (old new : Flattening) (p : PackedOp
     shape = λ shape. rw pushes.levels shape;
     ends = λ before final opened ends. (both before final opened ends).0;
     makes = λ before final whole most opened ends m.
-        makes-on s final outermost old new p (flat_op (entry_of_number final outermost) (label_entries final outermost old.levels) op) (behind (counts_of s op) old.height)
+        makes-on s final outermost old new p (flat_op (entry_of_number final outermost) (label_entries final outermost old.levels) op) (behind (counts_of s op) old.heights.here)
         (packs final (both before final opened ends).1)
-        pushes.operations pushes.greatest (pushes.height ∙ after_is) (Plain op) ops whole most
+        pushes.operations (subst (λ (h : Option ℕ). GoesOnAt old.heights h new.heights) after_is pushes.heights) (Plain op) ops whole most
         (rw pushes.levels (record {
-          operations = left-plain s (entry_of_number final outermost) (made final old.operations.items) (open_bodies final old.levels) old.height op (rests ops);
-          heights = greatest-plain s old.greatest (open_bodies final old.levels) old.height op (rests ops);
+          operations = left-plain s (entry_of_number final outermost) (made final old.operations.items) (open_bodies final old.levels) old.heights.here op (rests ops);
+          heights = greatest-plain s old.heights.greatest (open_bodies final old.levels) old.heights.here op (rests ops);
         })) m;
   }
 
 -- The same for one that names nothing by number.
 pub alone-passes : (s : Signatures) (outermost : ℕ) (old new : Flattening) (p : PackedOp) (op : PlainOp) (counts : Option Counts) → PacksAnywhere p op → counts ≡ counts_of s op
-    → Pushes old p (behind counts old.height) new → Passes s outermost old (Plain op) new
+    → Pushes old p (behind counts old.heights.here) new → Passes s outermost old (Plain op) new
 alone-passes s outermost old new p op counts packs counted pushes ops =
-    plain-passes s outermost old new p op (behind counts old.height) (rw pushes.tables (adds_nothing old.tables)) (λ final added. packs final (entry_of_number final outermost) (label_entries final outermost old.levels))
-    (ap (λ (c : Option Counts). behind c old.height) counted)
-    (record { operations = pushes.operations; greatest = pushes.greatest; height = pushes.height; tables = refl; levels = pushes.levels }) ops
+    plain-passes s outermost old new p op (behind counts old.heights.here) (rw pushes.tables (adds_nothing old.tables)) (λ final added. packs final (entry_of_number final outermost) (label_entries final outermost old.levels))
+    (ap (λ (c : Option Counts). behind c old.heights.here) counted)
+    (record { operations = pushes.operations; heights = pushes.heights; tables = refl; levels = pushes.levels }) ops

@@ -124,17 +124,17 @@ module _ (before : SideTables) (outermost : ℕ) (f : Flattening) (begun : IsBeg
 
 makes-last : (s : Signatures) (final : SideTables) (before : SideTables) (outermost : ℕ) (f : Flattening) (whole : List FlatOp) (most : ℕ) → IsOpen before outermost f []
     → Makes s final outermost f [] whole most
-    → (made final f.operations.items ≡ whole) × (max f.greatest (height_or_zero f.height) ≡ most)
+    → (made final f.operations.items ≡ whole) × (max f.heights.greatest (height_or_zero f.heights.here) ≡ most)
 makes-last s final before outermost f whole most opened m =
     let none = no-levels f.levels opened.shape in
     let first : made final f.operations.items ++ [] ≡ whole = rw none at m.operations in
-    let second : max f.greatest (max (height_or_zero f.height) 0) ≡ most = rw none at m.heights in
+    let second : max f.heights.greatest (max (height_or_zero f.heights.here) 0) ≡ most = rw none at m.heights in
     (sym (append-nil (made final f.operations.items)) ∙ first, omega arith)
 
 -- What was made is the operations before, which are as they were, and the body's flat code.
 pub is-made : (s : Signatures) (before : SideTables) (outermost : ℕ) (f g : Flattening) (locals results : ℕ) (ops : List Op) (body : Body) (final : SideTables) (most : ℕ)
     → Starts before outermost f locals results → ops ≡ writing body → (rests ops).here.body ≡ body → All (IsWithin before) f.operations.items
-    → PassesTo s outermost f ops [] g → EndsAs before outermost g [] final → most ≡ max g.greatest (height_or_zero g.height)
+    → PassesTo s outermost f ops [] g → EndsAs before outermost g [] final → most ≡ max g.heights.greatest (height_or_zero g.heights.here)
     → IsMade s f.operations.items before locals results body (with-tables g final) most
 is-made s before outermost f g locals results ops body final most starts written whole within passes ends most_is =
     let opened = opens-first before outermost f locals results starts ops body written in

@@ -1,6 +1,6 @@
 -- The numbers of operands that each instruction takes and gives, which count its type (Validation, Instructions).
 use Rattle.sidetable.specs.declared.counts.Counts.{Counts}
-use Rattle.std.specs.Prelude.{◌≡◌, ℕ, suc, ◌+◌, ◌-◌, List, length, Option, Some, None, slice_get}
+use Rattle.std.specs.Prelude.{◌≡◌, ◌≤◌, ℕ, zero, suc, ◌+◌, ◌-◌, List, length, max, Option, Some, None, slice_get}
 use Rattle.core_types.specs.declared.op.BlockType.{BlockType}
 use Rattle.core_types.specs.declared.op.ControlOp.{ControlOp}
 use Rattle.core_types.specs.declared.op.ControlOp.TheVariants.{Unreachable, Nop, Br, BrIf, Return, Call, CallIndirect, ReturnCall, ReturnCallIndirect}
@@ -133,6 +133,26 @@ abbrev pub less : ℕ → Option ℕ → Option ℕ
 less n None = None
 less n (Some h) = Some (h - n)
 
+-- The height below a number: none below 0.
+abbrev pub height_below : ℕ → Option ℕ
+height_below zero = None
+height_below (suc h) = Some h
+
+abbrev pub number_above : Option ℕ → ℕ
+number_above None = 0
+number_above (Some h) = suc h
+
 abbrev pub height_or_zero : Option ℕ → ℕ
 height_or_zero None = 0
 height_or_zero (Some h) = h
+
+-- The height at a place, and the greatest one so far.
+pub record HeightsSoFar : Type 0 where
+  pub here : Option ℕ
+  pub greatest : ℕ
+
+-- A place at this height follows. The greatest height so far is at least the one here.
+pub record GoesOnAt (old : HeightsSoFar) (height : Option ℕ) (new : HeightsSoFar) : Type 0 where
+  pub here : new.here ≡ height
+  pub greatest : new.greatest ≡ max old.greatest (height_or_zero height)
+  pub within : height_or_zero old.here ≤ old.greatest

@@ -5,7 +5,7 @@ use Rattle.std.specs.declared.alloc.Global.{Global}
 use Rattle.core_types.specs.declared.op.Op.{Op}
 use Rattle.meaning.specs.structure.Bodies.{Body, Part, Rests, first_part, other_parts, rests}
 use Rattle.sidetable.specs.Completion.{AreCopies, ChangesEntries, Completes, IsLabelSince, ranges_since}
-use Rattle.sidetable.specs.Counts.{Signatures, height_or_zero}
+use Rattle.sidetable.specs.Counts.{GoesOnAt, Signatures}
 use Rattle.core_types.specs.declared.module.Func.{Func}
 use Rattle.sidetable.specs.Flat.{FlatOp, Jump, entry_of, flat, function_entry, function_greatest, greatest, size}
 use Rattle.sidetable.specs.FlatModules.{AreFlat, AreWithin, IsFlat, operations_of}
@@ -104,10 +104,11 @@ pub record Makes (s : Signatures) (final : SideTables) (outermost : ℕ) (f : Fl
     (ops : List Op) (whole : List FlatOp) (most : ℕ)
     : Type 0 where
   pub operations : made final f.operations.items
-      ++ left s (entry_of_number final outermost) (open_bodies final f.levels) f.height
+      ++ left s (entry_of_number final outermost) (open_bodies final f.levels) f.heights.here
       (length f.operations.items) (rests ops)
       ≡ whole
-  pub heights : max f.greatest (greatest_left s (open_bodies final f.levels) f.height (rests ops))
+  pub heights : max f.heights.greatest
+      (greatest_left s (open_bodies final f.levels) f.heights.here (rests ops))
       ≡ most
   pub within : All (IsWithin final) f.operations.items
 
@@ -136,8 +137,7 @@ HasBegun outermost f = (before : SideTables) × IsBegun before outermost f
 pub record Pushes (old : Flattening) (p : PackedOp) (after : Option ℕ) (new : Flattening)
     : Type 0 where
   pub operations : new.operations.items ≡ old.operations.items ++ p ∷ []
-  pub greatest : new.greatest ≡ max old.greatest (height_or_zero old.height)
-  pub height : new.height ≡ after
+  pub heights : GoesOnAt old.heights after new.heights
   pub tables : new.tables ≡ old.tables
   pub levels : new.levels ≡ old.levels
 
@@ -150,8 +150,8 @@ pub record Starts (before : SideTables) (outermost : ℕ) (f : Flattening) (loca
       (before.entries.items ++ entry_of 0 results locals ∷ [])
   pub outer : outermost ≡ length before.entries.items
   pub levels : f.levels ≡ []
-  pub height : f.height ≡ Some locals
-  pub greatest : f.greatest ≡ locals + results
+  pub height : f.heights.here ≡ Some locals
+  pub greatest : f.heights.greatest ≡ locals + results
 
 -- The operations of a body were appended, and this is the greatest height in its function's frame.
 pub record IsMade (s : Signatures) (before : List PackedOp) (tables : SideTables)

@@ -64,4 +64,4 @@ pub record EndsFunction (old new : Flattener) : Type 0 where
       → EndsAs before old.outermost old.flattening [] new.flattening.tables
   pub functions : new.functions.items ≡ old.functions.items
       ++ with_greatest old.function
-      (max old.flattening.greatest (height_or_zero old.flattening.height)) ∷ []
+      (max old.flattening.heights.greatest (height_or_zero old.flattening.heights.here)) ∷ []

@@ -188,7 +188,7 @@ impl Visitor for Flattener<'_> {
 /// # Errors
 ///
 /// Fails as `validate` does, with `Invalid` and a place, or with `OutOfMemory`. It fails with `OutOfMemory`, too, if a function has more
-/// than 2^32 - 1 locals, including its parameters, or results, if a height has more than 64 bits, or if all bodies together have more
+/// than 2^32 - 1 locals, including its parameters, or results, if a height is 2^62 or more, or if all bodies together have more
 /// than 2^32 - 1 operations, entries, branches by number, 64-bit constants or pairs of indices.
 pub fn flatten(alloc: Global, decoded: Module) -> Result<(ValidModule, FlatModule), ValidateError>
     ensures kept { IfOk result (λ flattened. flattened.0 ≡ decoded) }

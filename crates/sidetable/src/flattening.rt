@@ -19,7 +19,7 @@ use crate::instructions::{
     pack_numeric, pack_parametric, pack_variable,
 };
 use crate::labels::{Level, Pending};
-use crate::operand_heights::{base, changed, known, less_one, pass_height};
+use crate::operand_heights::{Height, Heights, base, changed, less_one};
 use crate::operations::{Entry, PackedOp, TransferInstruction};
 use crate::side_tables::{SideTables, number};
 use core_types::{
@@ -34,8 +34,7 @@ pub struct Flattening {
     pub tables: SideTables,
     pub operations: Vec<PackedOp>,
     levels: Stack<Level>,
-    height: Option<u64>,
-    greatest: u64,
+    heights: Heights,
 }
 
 impl Flattening {
@@ -47,8 +46,7 @@ impl Flattening {
             tables: SideTables::new(alloc),
             operations: Vec::new(alloc),
             levels: Stack::new(alloc),
-            height: None,
-            greatest: 0,
+            heights: Heights::new(0, 0),
         }
     }
 }
@@ -57,11 +55,10 @@ impl Flattening {
 
 // Appends an operation, after which the height is this.
 #[inline(always)]
-fn push_operation(f: &mut Flattening, op: PackedOp, after: Option<u64>) -> Result<(), AllocError>
+fn push_operation(f: &mut Flattening, op: PackedOp, after: Height) -> Result<(), AllocError>
     ensures { OnOk result (Pushes f.old op after f.new) }
 {
-    f.greatest = f.greatest.max(known(f.height));
-    f.height = after;
+    f.heights.set(after)?;
     append(&mut f.operations, op)
 }
 
@@ -90,7 +87,7 @@ fn step_block(
     ensures { OnOk result (Passes (signatures_of s.now) outermost f.old (Block ty) f.new) }
 {
     let c = counts_of_block(s, ty);
-    let inside = f.height;
+    let inside = f.heights.here();
     let after = changed(c, inside)?;
     let label = push_pending(&mut f.tables, number(c.gives)?, base(c, inside))?;
     push_operation(f, PackedOp::Enter, inside)?;
@@ -113,7 +110,7 @@ fn step_loop(
     ensures { OnOk result (Passes (signatures_of s.now) outermost f.old (Loop ty) f.new) }
 {
     let c = counts_of_block(s, ty);
-    let inside = f.height;
+    let inside = f.heights.here();
     let after = changed(c, inside)?;
     let label = f.tables.push_entry(Entry {
         target: number(f.operations.len())?,
@@ -140,7 +137,7 @@ fn step_if(
     ensures { OnOk result (Passes (signatures_of s.now) outermost f.old (If ty) f.new) }
 {
     let c = counts_of_block(s, ty);
-    let inside = less_one(f.height);
+    let inside = less_one(f.heights.here());
     let after = changed(c, inside)?;
     let height = base(c, inside);
     let label = push_pending(&mut f.tables, number(c.gives)?, height)?;
@@ -156,12 +153,12 @@ fn step_if(
 }
 
 // Sets the target of the second entry of an `if`, unless it has one.
-fn complete_second(tables: &mut SideTables, level: Level, place: u32)
-    requires { IfSecond (λ number. number < length tables.old.entries.items) level.pending }
+fn complete_second(tables: &mut SideTables, pending: Pending, place: u32)
+    requires { IfSecond (λ number. number < length tables.old.entries.items) pending }
     ensures { ChangesEntries tables.old tables.new
-        (with_targets tables.old.entries.items (second_targets level.pending place)) }
+        (with_targets tables.old.entries.items (second_targets pending place)) }
 {
-    match level.pending {
+    match pending {
         Pending::Nothing | Pending::End => {}
         Pending::SecondAndEnd(second) => tables.set_target(second, place),
     }
@@ -177,7 +174,7 @@ fn step_else(s: &ModuleTypes<'_>, outermost: u32, f: &mut Flattening) -> Result<
     };
     let jump = PackedOp::Transfer(TransferInstruction::Jump, level.label);
     push_operation(f, jump, level.inside)?;
-    complete_second(&mut f.tables, level, number(f.operations.len())?);
+    complete_second(&mut f.tables, level.pending, number(f.operations.len())?);
     f.levels.push(Level {
         label: level.label,
         pending: Pending::End,
@@ -194,8 +191,9 @@ fn complete_level(tables: &mut SideTables, level: Level, end: u32)
     ensures { ChangesEntries tables.old tables.new
         (with_targets tables.old.entries.items (targets_of level.pending level.label end end)) }
 {
-    complete_second(tables, level, end);
-    match level.pending {
+    let pending = level.pending;
+    complete_second(tables, pending, end);
+    match pending {
         Pending::Nothing => {}
         Pending::End | Pending::SecondAndEnd(_) => tables.set_target(level.label, end),
     }
@@ -210,8 +208,7 @@ fn step_end(s: &ModuleTypes<'_>, outermost: u32, f: &mut Flattening) -> Result<(
         return Ok(());
     };
     complete_level(&mut f.tables, level, number(f.operations.len())?);
-    f.greatest = f.greatest.max(known(f.height));
-    f.height = level.after;
+    f.heights.set(level.after)?;
     Ok(())
 }
 
@@ -240,9 +237,9 @@ pub fn pass_mark(
 // Appends a packed instruction, after which the heights change by its counts.
 #[inline(always)]
 fn push_packed(f: &mut Flattening, packed: PackedInstruction) -> Result<(), AllocError>
-    ensures { OnOk result (Pushes f.old packed.op (behind packed.counts f.old.height) f.new) }
+    ensures { OnOk result (Pushes f.old packed.op (behind packed.counts f.old.heights.here) f.new) }
 {
-    pass_height(packed.counts, &mut f.height, &mut f.greatest)?;
+    f.heights.pass(packed.counts)?;
     append(&mut f.operations, packed.op)
 }
 
@@ -371,8 +368,7 @@ pub fn begin_body(f: &mut Flattening, locals: u32, results: u32) -> Result<u32, 
 {
     f.levels.clear();
     let outermost = push_pending(&mut f.tables, results, locals as u64)?;
-    f.height = Some(locals as u64);
-    f.greatest = locals as u64 + results as u64;
+    f.heights = Heights::new(locals as u64, results as u64);
     Ok(outermost)
 }
 
@@ -383,10 +379,11 @@ pub fn end_body(f: &mut Flattening, outermost: u32, first_range: usize) -> Resul
     ensures ends { OnOk result ((before : SideTablesBefore)
         → length before.branch_ranges.items ≡ first_range → IsOpen before outermost f.old ([])
         → EndsAs before outermost f.old ([]) f.new.tables) }
-    ensures greatest { IfOk result (λ n. n ≡ max f.old.greatest (height_or_zero f.old.height)) }
+    ensures greatest { IfOk result (λ n. n ≡ max f.old.heights.greatest
+        (height_or_zero f.old.heights.here)) }
     ensures operations { f.new.operations ≡ f.old.operations }
 {
     f.tables.set_target(outermost, number(f.operations.len())?);
     copy_all_labels(&mut f.tables, first_range);
-    Ok(f.greatest.max(known(f.height)))
+    Ok(f.heights.greatest())
 }

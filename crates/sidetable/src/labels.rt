@@ -8,6 +8,7 @@ ghost use Rattle.sidetable.specs.SideTables.{SideTables as AnyTables, entry_of_n
 ghost use Rattle.sidetable.specs.declared.operations.PackedOp.TheVariants as packed;
 ghost use Rattle.sidetable.specs.declared.operations.TransferInstruction.TheVariants as transfer;
 
+use crate::operand_heights::Height;
 use crate::operations::Entry;
 use crate::side_tables::{BranchRange, SideTables, number};
 use core_types::{BranchTable, Stack};
@@ -30,8 +31,8 @@ pub enum Pending {
 pub struct Level {
     pub label: u32,
     pub pending: Pending,
-    pub inside: Option<u64>,
-    pub after: Option<u64>,
+    pub inside: Height,
+    pub after: Height,
 }
 
 /// Returns the number of a label's entry. Labels are counted from the inside out, and the function's own label is the last one.

@@ -1,5 +1,5 @@
 -- Reading a body up to a place in it.
-use Rattle.std.proofs.Common.{Bool, List, [], ap, append_assoc, false, inl, inr, refl, sym, true, ℕ, ◌++◌, ◌∙◌, ◌∷◌, ◌≡◌, ◌⊎◌, ◌||◌}
+use Rattle.std.proofs.Common.{Bool, List, [], ap, append_assoc, false, inl, inr, refl, sym, true, ℕ, ◌++◌, ◌∙◌, ◌∷◌, ◌≡◌, ◌||◌}
 use Rattle.std.specs.List.{list_any}
 use Rattle.std.specs.Prelude.{None, Option, Some, option_map}
 use Rattle.std.proofs.lemmas.List.{append-nil}
@@ -8,23 +8,12 @@ use Rattle.core_types.specs.declared.op.Op.{Op}
 use Rattle.core_types.specs.reading.Bodies.{operations_in, operations_of, or_stray_else, stray_else}
 use Rattle.meaning.specs.binary.Modules.{names_data}
 use Rattle.binary.specs.Bodies.{Passes, Place}
-use Rattle.binary.specs.Errors.{OnRefused}
-use Rattle.binary.specs.declared.errors.DecodeError.{DecodeError}
-use Rattle.binary.specs.declared.errors.DecodeError.TheVariants as decode
 use Rattle.meaning.proofs.lemmas.Writings.{never_stray}
 use Rattle.validator.specs.Completeness.{IsRestTyped, IsUntyped}
-use Rattle.validator.specs.Errors.{OnInvalid, fault_of}
 use Rattle.validator.specs.Steps.{CannotBeNext, IsRefusedNext}
 use Rattle.validator.specs.declared.context.BodyContext.{BodyContext}
 use Rattle.validator.specs.declared.control_frames.Stacks.{Stacks}
 use Rattle.validator.proofs.completeness.WholeBodies.{next_refused}
-
--- An error of reading that is a fault states what it refuses.
-pub refused_invalid : (error : DecodeError) (fact : Type 0) → OnRefused error fact → OnInvalid fact (fault_of error)
-refused_invalid (decode.Malformed offset) fact refused invalid = refused
-refused_invalid (decode.Unsupported offset) fact refused invalid = refused
-refused_invalid decode.Limit fact refused invalid = refused
-refused_invalid decode.OutOfMemory fact refused invalid = absurd cc
 
 -- These operations of the body were read, and the others are left.
 pub record ReadsBody (body read : List Op) (here : Place) : Type 0 where

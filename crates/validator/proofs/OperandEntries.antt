@@ -1,15 +1,15 @@
 -- Laws of the operands that entries are.
 use denote.Ref.{Bor}
-use Rattle.std.proofs.Common.{All, drop, ◌≡◌, ℕ, get_or, zero, suc, take, ◌+◌, ◌-◌, ◌<◌, ◌≤◌, ◌^◌, List, [], ◌∷◌, ◌++◌, length, refl, sym, ap, ◌∙◌, append_assoc, arith, length-append}
+use Rattle.std.proofs.Common.{All, drop, ◌≡◌, ℕ, get_or, zero, suc, take, ◌+◌, ◌-◌, ◌<◌, ◌≤◌, ◌^◌, List, [], ◌∷◌, ◌++◌, length, refl, sym, subst, ap, ◌∙◌, append_assoc, arith, length-append}
 use Rattle.std.proofs.lemmas.List.Elements.{All-append, All-head, All-nil, All-replicate, All-tail}
-use Rattle.std.proofs.lemmas.List.{append-nil, length-map, map-append, take-append-drop, take_more}
+use Rattle.std.proofs.lemmas.List.{append-nil, length-map, length-take-le, map-append, take-append-drop, take_more}
 use Rattle.core_types.specs.declared.types.OperandType.TheVariants.{Known, Unknown}
 use Rattle.core_types.specs.declared.types.OperandType.{OperandType}
 use Rattle.core_types.specs.declared.types.ValType.{ValType}
 use Rattle.meaning.specs.validation.Instructions.{known}
-use Rattle.validator.specs.declared.operand_stack.Entry.{Entry}
-use Rattle.validator.specs.declared.operand_stack.Entry.TheVariants as entry
-use Rattle.validator.specs.declared.operand_stack.Entry.TheVariants.{Run}
+use Rattle.validator.specs.declared.entries.Entry.{Entry}
+use Rattle.validator.specs.declared.entries.Entry.TheVariants as entry
+use Rattle.validator.specs.declared.entries.Entry.TheVariants.{Run}
 use Rattle.validator.specs.OperandStack.{AreEntries, EndEach, EndIn, EndsWith, each_of, one, operands_in, runs_in, types_in, types_of}
 use Rattle.validator.proofs.OperandStack.{split_last}
 
@@ -73,6 +73,39 @@ entries_with_one {es} t kept = record { each = runs_of_one es t ∙ kept.each; s
 -- The entries without the last operand.
 pub entries_without_one : {es : List Entry} {rs : List (List ValType)} {more : ℕ} (t : OperandType) → AreEntries (es ++ one t ∷ []) rs more → AreEntries es rs more
 entries_without_one {es} t kept = record { each = sym (runs_of_one es t) ∙ kept.each; some = kept.some; types = kept.types; few = kept.few }
+
+-- The topmost entry is an operand of a type. It is removed.
+module _ (es : List Entry) (rs : List (List ValType)) (t : ValType) (n : ℕ) {more : ℕ} (last : n + 1 ≡ length es) (top : entry.Known t ≡ get_or es n (entry.Known t))
+    (kept : AreEntries es rs more) where
+  pub entries_dropped : AreEntries (take n es) rs more
+  entries_dropped = entries_without_one (Known t) (subst (λ (z : List Entry). AreEntries z rs more) (split_last es (entry.Known t) n last top) kept)
+
+  pub operands_dropped : operands_in es rs ≡ operands_in (take n es) rs ++ Known t ∷ []
+  operands_dropped = ap (λ (z : List Entry). operands_in z rs) (split_last es (entry.Known t) n last top) ∙ one_more (take n es) rs (Known t)
+
+  pub height_dropped : (height : ℕ) → height < length es → height ≤ length (operands_in (take n es) rs)
+  height_dropped height less = omega (arith, count_of entries_dropped, length-take-le n es (omega (arith, last)), last, less)
+
+-- So are the two topmost ones.
+module _ (es : List Entry) (rs : List (List ValType)) (under top : ValType) (n : ℕ) {more : ℕ} (last : n + 2 ≡ length es) (first : entry.Known top ≡ get_or es (n + 1) (entry.Known top))
+    (second : entry.Known under ≡ get_or es n (entry.Known under)) (kept : AreEntries es rs more) where
+  final : n + 1 + 1 ≡ length es
+  final = omega (arith, last)
+
+  parts : take (n + 1) es ≡ take n es ++ entry.Known under ∷ []
+  parts = take_more es n (entry.Known under) (omega (arith, last)) ∙ ap (λ (x : Entry). take n es ++ x ∷ []) (sym second)
+
+  pub entries_dropped_two : AreEntries (take n es) rs more
+  entries_dropped_two = entries_without_one (Known under) (subst (λ (z : List Entry). AreEntries z rs more) parts (entries_dropped es rs top (n + 1) final first kept))
+
+  pub operands_dropped_two : operands_in es rs ≡ operands_in (take n es) rs ++ Known under ∷ Known top ∷ []
+  operands_dropped_two =
+      operands_dropped es rs top (n + 1) final first kept
+      ∙ ap (λ (z : List OperandType). z ++ Known top ∷ []) (ap (λ (z : List Entry). operands_in z rs) parts ∙ one_more (take n es) rs (Known under))
+      ∙ append_assoc (operands_in (take n es) rs) (Known under ∷ []) (Known top ∷ [])
+
+  pub height_dropped_two : (height : ℕ) → height ≤ n → height ≤ length (operands_in (take n es) rs)
+  height_dropped_two height less = omega (arith, count_of entries_dropped_two, length-take-le n es (omega (arith, last)), less)
 
 -- The entries with one more run.
 pub entries_with_run : {es : List Entry} {rs : List (List ValType)} {more : ℕ} (r : List ValType) → 0 < length r → more + length r ≤ 2 ^ 62

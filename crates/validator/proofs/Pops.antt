@@ -7,9 +7,9 @@ use Rattle.core_types.specs.declared.types.OperandType.{OperandType}
 use Rattle.core_types.specs.declared.types.OperandType.TheVariants.{Known}
 use Rattle.core_types.specs.declared.types.ValType.{ValType}
 use Rattle.meaning.specs.validation.Instructions.{Fits, known}
-use Rattle.meaning.proofs.lemmas.Typing.{AllFit-joined}
+use Rattle.meaning.proofs.lemmas.Typing.{AllFit-joined, AllFit-same}
 use Rattle.validator.specs.declared.control_frames.ControlFrame.{ControlFrame}
-use Rattle.validator.specs.Operands.{Pops, PopsOne, Refuses, Replaces, ReplacesTop, TakesOff}
+use Rattle.validator.specs.Operands.{DropsTop, Pops, PopsOne, Refuses, Replaces, ReplacesTop, TakesOff}
 use Rattle.validator.proofs.OperandStack.{Takes-many, Takes-under}
 use Rattle.validator.proofs.completeness.Covers.{Refuses-misfit, Refuses-top, Refuses-under}
 
@@ -57,6 +57,10 @@ module _ (frame : ControlFrame) (old : List OperandType) where
   pub one_popped : (answer : Bool) (new : List OperandType) (wanted : ValType) → PopsOne frame old (Known wanted) new answer → Pops frame old (known (wanted ∷ [])) new answer
   one_popped true new wanted (t, takes, fit) = (t ∷ [], takes, (fit, tt))
   one_popped false new wanted refuses = refuses
+
+  -- The topmost operands were removed.
+  pub dropped_top : (new : List OperandType) (wanted : List ValType) → DropsTop frame.height old wanted new → Pops frame old (known wanted) new true
+  dropped_top new wanted (parts, high) = (known wanted, Takes-many frame.unreachable frame.height old new (known wanted) parts high, AllFit-same (known wanted))
 
   -- The topmost operands were replaced.
   pub replaced_top : (answer : Bool) (new : List OperandType) (wanted : List ValType) (given : ValType) → OnTrue answer (ReplacesTop frame.height old wanted given new)

@@ -1,12 +1,13 @@
 -- The entries that the operands of a body are kept in.
 use denote.Ref.{Bor}
-use Rattle.std.specs.Prelude.{◌≡◌, ℕ, List, [], ◌∷◌, ◌++◌, ◌+◌, ◌<◌, ◌≤◌, ◌^◌, All, length, map}
+use Rattle.std.specs.Prelude.{◌≡◌, ℕ, zero, suc, List, [], ◌∷◌, ◌++◌, ◌+◌, ◌<◌, ◌≤◌, ◌^◌, All, length, map}
 use Rattle.core_types.specs.declared.types.OperandType.{OperandType}
 use Rattle.core_types.specs.declared.types.ValType.{ValType}
+use Rattle.core_types.specs.declared.types.ValType.TheVariants.{ExternRef, FuncRef, I32, I64}
 use Rattle.meaning.specs.validation.Instructions.{known}
-use Rattle.validator.specs.declared.operand_stack.Entry.{Entry}
+use Rattle.validator.specs.declared.entries.Entry.{Entry}
 use Rattle.core_types.specs.declared.types.OperandType.TheVariants as operand
-use Rattle.validator.specs.declared.operand_stack.Entry.TheVariants.{Known, Unknown, Run}
+use Rattle.validator.specs.declared.entries.Entry.TheVariants.{Known, Unknown, Run}
 
 -- The lists of types that references lead to.
 abbrev pub types_of : List (Bor (List ValType)) → List (List ValType)
@@ -16,6 +17,23 @@ types_of runs = map (λ (run : Bor (List ValType)). run.now) runs
 abbrev pub one : OperandType → Entry
 one (operand.Known t) = Known t
 one operand.Unknown = Unknown
+
+-- An entry as a number, and back.
+abbrev pub code_of : Entry → ℕ
+code_of (Known I32) = 0
+code_of (Known I64) = 1
+code_of (Known FuncRef) = 2
+code_of (Known ExternRef) = 3
+code_of Unknown = 4
+code_of Run = 5
+
+abbrev pub entry_of : ℕ → Entry
+entry_of zero = Known I32
+entry_of (suc zero) = Known I64
+entry_of (suc (suc zero)) = Known FuncRef
+entry_of (suc (suc (suc zero))) = Known ExternRef
+entry_of (suc (suc (suc (suc zero)))) = Unknown
+entry_of (suc (suc (suc (suc (suc n))))) = Run
 
 -- The operands of entries, whose runs have these types.
 abbrev pub operands_in : List Entry → List (List ValType) → List OperandType

@@ -92,6 +92,10 @@ FitsReference t wanted = Fits t (Known (reference_type wanted))
 abbrev pub AreBothNumeric : OperandType → OperandType → OperandType → Type 0
 AreBothNumeric first second t = IsNumeric t × Fits first t × Fits second t
 
+-- Operands of these types, which were on top and above a height, are removed.
+abbrev pub DropsTop : (height : ℕ) → List OperandType → List ValType → List OperandType → Type 0
+DropsTop height old wanted new = (old ≡ new ++ known wanted) × (height ≤ length new)
+
 -- Operands of these types, which were on top and above a height, are replaced.
 abbrev pub ReplacesTop : (height : ℕ) → List OperandType → List ValType → ValType → List OperandType
     → Type 0

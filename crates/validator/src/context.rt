@@ -25,6 +25,7 @@ pub struct BodyContext<'a> {
 }
 
 // Returns the type of a local. The parameters come first.
+#[inline(always)]
 pub fn local_type(context: &BodyContext<'_>, index: u32) -> Option<ValType>
     ensures { result ≡ slice_get (local_types context.now) index }
 {

@@ -6,6 +6,7 @@ mod context;
 mod control_frames;
 mod data_segments;
 mod elements;
+mod entries;
 mod errors;
 mod exports;
 mod functions;

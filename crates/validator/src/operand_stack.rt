@@ -1,9 +1,10 @@
 ghost use Rattle.std.specs.Bool.{OnFalse, OnTrue};
 ghost use Rattle.std.specs.Prelude.{IfNone, IfSome, IsTrue, OnOk, [], length, option_to_list, take, ◌++◌, ◌<◌, ◌↔◌, ◌∷◌, ◌≡◌, ◌≤◌};
 ghost use Rattle.meaning.specs.validation.Instructions.{known};
-ghost use Rattle.validator.specs.OperandStack.{AreEntries, EndEach, EndIn, EndsWith, IsRunOnTop, each_of, one, operands_in, runs_in, types_of};
-ghost use Rattle.validator.specs.Operands.{ReplacesTop};
+ghost use Rattle.validator.specs.OperandStack.{AreEntries, EndEach, EndIn, EndsWith, IsRunOnTop, each_of, operands_in, runs_in, types_of};
+ghost use Rattle.validator.specs.Operands.{DropsTop, ReplacesTop};
 
+use crate::entries::{Entry, PackedEntry};
 use crate::types::are_equal;
 use core_types::{OperandType, ValType};
 use std::alloc::{AllocError, Global};
@@ -15,30 +16,11 @@ pub const LEAST_RUN: usize = 16;
 // How many operands more than entries there may be, so that the number of operands has 64 bits.
 const MOST_MORE: usize = 0x4000_0000_0000_0000;
 
-/// One operand, whose type is known or not, or those of a run.
-#[derive(Clone, Copy, PartialEq, Eq)]
-pub enum Entry {
-    Known(ValType),
-    Unknown,
-    Run,
-}
-
-// Returns the entry of one operand.
-#[inline(always)]
-fn entry_of(operand: OperandType) -> Entry
-    ensures { result ≡ one operand }
-{
-    match operand {
-        OperandType::Known(ty) => Entry::Known(ty),
-        OperandType::Unknown => Entry::Unknown,
-    }
-}
-
 /// The operands of a body, the topmost last. A long list of types that was pushed at once is a run: it takes one entry, and its
 /// types are borrowed.
 #[derive(Drop)]
 pub struct OperandStack<'a> {
-    entries: Vec<Entry>,
+    entries: Vec<PackedEntry>,
     // The types of each run, in order. None is empty.
     runs: Vec<&'a [ValType]>,
     // How many operands there are more than entries.
@@ -97,7 +79,7 @@ impl<'a> OperandStack<'a> {
     pub fn push(&mut self, operand: OperandType) -> Result<(), AllocError>
         ensures { OnOk result (self.new ≡ self.old ++ operand ∷ []) }
     {
-        self.entries.push(entry_of(operand))?;
+        self.entries.push(PackedEntry::of(operand))?;
         Ok(())
     }
 
@@ -124,7 +106,7 @@ impl<'a> OperandStack<'a> {
         let more = self.more + (types.len() - 1);
         let count = self.runs.len();
         self.runs.push(types)?;
-        match self.entries.push(Entry::Run) {
+        match self.entries.push(PackedEntry::run()) {
             Ok(()) => {
                 self.more = more;
                 Ok(())
@@ -180,7 +162,7 @@ impl<'a> OperandStack<'a> {
         ensures kept { IfNone result (self.new ≡ self.old) }
     {
         let count = self.entries.len();
-        if count == 0 || self.entries[count - 1] != Entry::Run {
+        if count == 0 || !self.entries[count - 1].is_run() {
             return None;
         }
         Some(cut_run(&mut self.entries, &mut self.runs, &mut self.more, most))
@@ -196,7 +178,7 @@ impl<'a> OperandStack<'a> {
         if count == 0 {
             return None;
         }
-        match self.entries[count - 1] {
+        match self.entries[count - 1].get() {
             Entry::Known(ty) => {
                 self.entries.truncate(count - 1);
                 Some(OperandType::Known(ty))
@@ -241,6 +223,39 @@ impl<'a> OperandStack<'a> {
         }
     }
 
+    // Removes the topmost operand, if there is an entry for it above a height, and its type is known and is this one. Returns whether
+    // it did.
+    #[inline(always)]
+    pub fn drop_top(&mut self, height: usize, takes: ValType) -> bool
+        ensures dropped { OnTrue result (DropsTop height self.old (takes ∷ []) self.new) }
+        ensures kept { OnFalse result (self.new ≡ self.old) }
+    {
+        let count = self.entries.len();
+        if count <= height || !self.entries[count - 1].is_known(takes) {
+            return false;
+        }
+        self.entries.truncate(count - 1);
+        true
+    }
+
+    // Removes the two topmost operands, if there are entries for them above a height, and their types are known and are these. Returns
+    // whether it did.
+    #[inline(always)]
+    pub fn drop_top_two(&mut self, height: usize, under: ValType, top: ValType) -> bool
+        ensures dropped { OnTrue result (DropsTop height self.old (under ∷ top ∷ []) self.new) }
+        ensures kept { OnFalse result (self.new ≡ self.old) }
+    {
+        let count = self.entries.len();
+        if count < 2 || count - 2 < height {
+            return false;
+        }
+        if !self.entries[count - 1].is_known(top) || !self.entries[count - 2].is_known(under) {
+            return false;
+        }
+        self.entries.truncate(count - 2);
+        true
+    }
+
     // Replaces the topmost operand with one of another type, if there is an entry for it above a height, and its type is known and
     // is this one. Returns whether it did.
     #[inline(always)]
@@ -249,10 +264,10 @@ impl<'a> OperandStack<'a> {
         ensures kept { OnFalse result (self.new ≡ self.old) }
     {
         let count = self.entries.len();
-        if count <= height || self.entries[count - 1] != Entry::Known(takes) {
+        if count <= height || !self.entries[count - 1].is_known(takes) {
             return false;
         }
-        self.entries[count - 1] = Entry::Known(gives);
+        self.entries[count - 1] = PackedEntry::known(gives);
         true
     }
 
@@ -268,18 +283,17 @@ impl<'a> OperandStack<'a> {
         if count < 2 || count - 2 < height {
             return false;
         }
-        let wanted = Entry::Known(takes);
-        if self.entries[count - 1] != wanted || self.entries[count - 2] != wanted {
+        if !self.entries[count - 1].is_known(takes) || !self.entries[count - 2].is_known(takes) {
             return false;
         }
         self.entries.truncate(count - 1);
-        self.entries[count - 2] = Entry::Known(gives);
+        self.entries[count - 2] = PackedEntry::known(gives);
         true
     }
 }
 
 // Returns whether entries are operands of these types, one each.
-fn are_each(entries: &[Entry], types: &[ValType]) -> bool
+fn are_each(entries: &[PackedEntry], types: &[ValType]) -> bool
     ensures { IsTrue result ↔ (entries.now ≡ each_of types.now) }
 {
     if entries.len() != types.len() {
@@ -287,18 +301,18 @@ fn are_each(entries: &[Entry], types: &[ValType]) -> bool
     }
     let mut equal = true;
     for i in 0..entries.len() {
-        equal &= entries[i] == Entry::Known(types[i]);
+        equal &= entries[i].is_known(types[i]);
     }
     equal
 }
 
 // Returns whether the last operands have these types, if the last entry is a run and they are of it.
-fn end_with_run(entries: &[Entry], runs: &[&[ValType]], types: &[ValType]) -> bool
+fn end_with_run(entries: &[PackedEntry], runs: &[&[ValType]], types: &[ValType]) -> bool
     requires { runs_in entries.now ≡ length runs.now }
     ensures { OnTrue result (EndIn (operands_in entries.now (types_of runs.now)) types.now) }
 {
     let count = entries.len();
-    if count == 0 || entries[count - 1] != Entry::Run {
+    if count == 0 || !entries[count - 1].is_run() {
         return false;
     }
     let Some(run) = runs.last() else {
@@ -314,7 +328,7 @@ fn end_with_run(entries: &[Entry], runs: &[&[ValType]], types: &[ValType]) -> bo
 }
 
 // Returns whether the last operands have these types, if they have entries of their own.
-fn end_with_each(entries: &[Entry], types: &[ValType]) -> bool
+fn end_with_each(entries: &[PackedEntry], types: &[ValType]) -> bool
     ensures { OnTrue result (EndEach entries.now types.now) }
 {
     let count = entries.len();
@@ -331,7 +345,7 @@ fn end_with_each(entries: &[Entry], types: &[ValType]) -> bool
 #[cold]
 #[inline(never)]
 fn cut_run<'a>(
-    entries: &mut Vec<Entry>,
+    entries: &mut Vec<PackedEntry>,
     runs: &mut Vec<&'a [ValType]>,
     more: &mut usize,
     most: usize,

@@ -49,16 +49,28 @@ pub fn pop_fitting(
     }
 }
 
-#[inline(always)]
-pub fn pop_one(operands: &mut OperandStack<'_>, frame: &ControlFrame<'_>, wanted: ValType) -> bool
+// Pops an operand of the type, whatever is on top.
+#[inline(never)]
+fn pop_any_one(operands: &mut OperandStack<'_>, frame: &ControlFrame<'_>, wanted: ValType) -> bool
     ensures { Pops frame.now operands.old (known (wanted ∷ [])) operands.new result }
 {
     pop_fitting(operands, frame, OperandType::Known(wanted))
 }
 
-// Pops an operand of the type on top, and then one of the type under it.
+// Pops an operand of the type. Mostly, that is the type of the topmost one.
 #[inline(always)]
-pub fn pop_two(
+pub fn pop_one(operands: &mut OperandStack<'_>, frame: &ControlFrame<'_>, wanted: ValType) -> bool
+    ensures { Pops frame.now operands.old (known (wanted ∷ [])) operands.new result }
+{
+    if operands.drop_top(frame.height, wanted) {
+        return true;
+    }
+    pop_any_one(operands, frame, wanted)
+}
+
+// Pops an operand of the type on top, and then one of the type under it, whatever is on top.
+#[inline(never)]
+fn pop_any_two(
     operands: &mut OperandStack<'_>,
     frame: &ControlFrame<'_>,
     under: ValType,
@@ -70,6 +82,22 @@ pub fn pop_two(
         return false;
     }
     pop_one(operands, frame, under)
+}
+
+// Pops an operand of the type on top, and then one of the type under it. Mostly, those are the types of the two topmost ones.
+#[inline(always)]
+pub fn pop_two(
+    operands: &mut OperandStack<'_>,
+    frame: &ControlFrame<'_>,
+    under: ValType,
+    top: ValType,
+) -> bool
+    ensures { Pops frame.now operands.old (known (under ∷ top ∷ [])) operands.new result }
+{
+    if operands.drop_top_two(frame.height, under, top) {
+        return true;
+    }
+    pop_any_two(operands, frame, under, top)
 }
 
 // Replaces the topmost operand of the frame with one of another type, if its type is known and is this one. Returns whether it

@@ -73,7 +73,3 @@ some_bytes (first ∷ bytes) byte is = omega arith
 pub any_bytes : (bytes : List ℕ) → first_byte bytes ≢ None → 0 < length bytes
 any_bytes [] not = absurd (not refl)
 any_bytes (first ∷ bytes) not = omega arith
-
-pub no_bytes : (bytes : List ℕ) → first_byte bytes ≡ None → length bytes ≡ 0
-no_bytes [] none = refl
-no_bytes (first ∷ bytes) none = absurd cc

@@ -1,8 +1,8 @@
-use Rattle.std.proofs.Common.{arith}
-use Rattle.std.proofs.lemmas.List.{drop_more}
-use Rattle.leb.proofs.UnsignedLaws.{last_reads}
+use Rattle.std.proofs.Common.{◌^◌, ◌<◌, arith}
+use Rattle.leb.proofs.UnsignedLaws.{last_reads_at}
 use Rattle.leb.proofs.unsigned.read_u32.Goals as goal
 
 pub returns-then-bytes-at-lt128-clause-found : goal.returns-then-bytes-at-lt128-clause-found
 returns-then-bytes-at-lt128-clause-found c =
-    rw (drop_more c.args.bytes.now c.args.at 0 c.if-at-bytes.true, c.from.ensures) (last_reads 32 _ _ c.if-bytes-at-lt128.true (omega (arith, c.if-bytes-at-lt128.true)))
+    let low : c.from.result < 2 ^ 7 = omega (arith, c.from.ensures, c.if-bytes-at-lt128.true) in
+    last_reads_at 32 c.args.at c.from.result c.args.bytes.now c.if-at-bytes.true c.from.ensures low (omega (arith, low))

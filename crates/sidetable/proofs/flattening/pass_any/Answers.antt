@@ -33,7 +33,7 @@ returns-in_ok-packed-in-Plain c =
     let packs = c.in_ok-packed-in-Plain.ensures in
     rw c.in-Plain.is
     (on_ok_weaker c.push_packed.result
-    (λ pushes. plain-passes (signatures_of c.args.s.now) c.args.outermost c.args.f.now c.push_packed.new.f packed.op c.in-Plain.op (behind packed.counts c.args.f.now.height)
-    (rw pushes.tables packs.adds) (rw pushes.tables packs.packs) (ap (λ (x : Option Counts). behind x c.args.f.now.height) packs.counts)
-    (record { operations = pushes.operations; greatest = pushes.greatest; height = pushes.height; tables = refl; levels = pushes.levels }))
+    (λ pushes. plain-passes (signatures_of c.args.s.now) c.args.outermost c.args.f.now c.push_packed.new.f packed.op c.in-Plain.op (behind packed.counts c.args.f.now.heights.here)
+    (rw pushes.tables packs.adds) (rw pushes.tables packs.packs) (ap (λ (x : Option Counts). behind x c.args.f.now.heights.here) packs.counts)
+    (record { operations = pushes.operations; heights = pushes.heights; tables = refl; levels = pushes.levels }))
     c.push_packed.ensures)

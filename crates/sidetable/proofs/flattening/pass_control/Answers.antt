@@ -18,6 +18,6 @@ returns c =
     let packed = c.in_ok-packed.packed in
     let counts = c.in_ok-packed.ensures.counts in
     on_ok_weaker c.push_packed.result
-    (λ pushes. plain-passes (signatures_of c.args.s.now) c.args.outermost c.args.f.now c.push_packed.new.f packed.op (Control c.args.op) (behind packed.counts c.args.f.now.height)
-    (rw pushes.tables c.in_ok-packed.ensures.adds) (rw pushes.tables c.in_ok-packed.ensures.packs) (ap (λ (x : Option Counts). behind x c.args.f.now.height) counts) (record { operations = pushes.operations; greatest = pushes.greatest; height = pushes.height; tables = refl; levels = pushes.levels }))
+    (λ pushes. plain-passes (signatures_of c.args.s.now) c.args.outermost c.args.f.now c.push_packed.new.f packed.op (Control c.args.op) (behind packed.counts c.args.f.now.heights.here)
+    (rw pushes.tables c.in_ok-packed.ensures.adds) (rw pushes.tables c.in_ok-packed.ensures.packs) (ap (λ (x : Option Counts). behind x c.args.f.now.heights.here) counts) (record { operations = pushes.operations; heights = pushes.heights; tables = refl; levels = pushes.levels }))
     c.push_packed.ensures

@@ -19,4 +19,4 @@ returns c =
     c.complete_second.ensures in
     else-passes (signatures_of c.args.s.now) c.args.outermost f _ level c.pop.new.self c.in_ok-number.field-0 c.in-Some.ensures (c.in_ok-push.ensures.ok
     ∙ ap (λ (ls : List Level). in_second level ∷ ls) pushed.levels)
-    pushed.operations pushed.greatest pushed.height place tables
+    pushed.operations pushed.heights place tables

@@ -17,9 +17,9 @@ pub returns : goal.returns
 returns c =
     let f = c.args.f.now in
     let counted = c.counts_of_block-c.ensures in
-    let inside = c.less_one-inside.ensures in
+    let inside = c.less_one-inside.ensures ∙ ap (less 1) c.here.ensures in
     let counts = block_counts (signatures_of c.args.s.now) c.args.ty in
-    let base : ℕ = height_or_zero (less 1 f.height) - counts.takes in
+    let base : ℕ = height_or_zero (less 1 f.heights.here) - counts.takes in
     let high : c.base-height.result ≡ base = c.base-height.ensures ∙ ap₂ (λ (h : Option ℕ) (x : Counts). height_or_zero h - x.takes) inside counted in
     let first = entry-same 0 0 c.in_ok-number.field-0 counts.gives c.base-height.result base refl (c.in_ok-number.ensures ∙ ap (λ (x : Counts). x.gives) counted) high in
     let second = entry-same 0 0 c.in_ok-number-2.field-0 counts.takes c.base-height.result base refl (c.in_ok-number-2.ensures ∙ ap (λ (x : Counts). x.takes) counted) high in

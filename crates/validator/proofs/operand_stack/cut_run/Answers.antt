@@ -4,8 +4,8 @@ use Rattle.std.proofs.Math.Seq.{take-append_seam}
 use Rattle.std.proofs.lemmas.List.{length-append, length-drop, length-map, length-take-le, map-append, take-append-drop, take_all}
 use Rattle.core_types.specs.declared.types.ValType.{ValType}
 use Rattle.validator.specs.OperandStack.{AreEntries, types_of}
-use Rattle.validator.specs.declared.operand_stack.Entry.{Entry}
-use Rattle.validator.specs.declared.operand_stack.Entry.TheVariants.{Run}
+use Rattle.validator.specs.declared.entries.Entry.{Entry}
+use Rattle.validator.specs.declared.entries.Entry.TheVariants.{Run}
 use Rattle.validator.proofs.OperandEntries.{has_run, operands_with_front, operands_with_run, some_on_top, top_within, types_parts, with_front, without_run}
 use Rattle.validator.proofs.OperandStack.{set_last}
 use Rattle.validator.proofs.operand_stack.cut_run.Goals as goal

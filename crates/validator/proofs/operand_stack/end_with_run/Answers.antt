@@ -1,9 +1,7 @@
-use Rattle.std.proofs.Common.{rules, ◌+◌, ◌-◌, ◌<◌, ◌≡◌, ap, arith, drop, get_or, length, refl, sym, ◌∙◌}
+use Rattle.std.proofs.Common.{◌+◌, ◌-◌, ◌≡◌, arith, drop, get_or, length, refl, sym, ◌∙◌}
 use Rattle.std.proofs.lemmas.List.{length-drop, take_all}
-use Rattle.std.proofs.lemmas.Option.{get_or_from_slice_get, slice_get-get_or, slice_get_within}
-use Rattle.std.specs.Prelude.{Some}
-use Rattle.core_types.specs.declared.types.ValType.TheVariants.{I32}
-use Rattle.validator.specs.declared.operand_stack.Entry.TheVariants as entry
+use Rattle.std.proofs.lemmas.Option.{get_or_from_slice_get, slice_get_within}
+use Rattle.validator.specs.declared.entries.Entry.TheVariants as entry
 use Rattle.validator.proofs.OperandEntries.{ends_in_run}
 use Rattle.validator.proofs.operand_stack.end_with_run.Goals as goal
 
@@ -17,9 +15,7 @@ returns c =
     let m = length runs - 1 in
     let last : n + 1 ≡ length entries = omega (arith, c.if-count-eq0.false) in
     let final : m + 1 ≡ length runs = omega (arith, slice_get_within runs m run (sym c.in-Some.ensures.value)) in
-    let top : get_or entries n (entry.Known I32) ≡ entry.Run = search (rules, c.ne.ensures, c.if-ne.false) in
-    let less : n < length entries = omega (arith, last) in
-    let same = sym (get_or_from_slice_get entries n entry.Run entry.Run (slice_get-get_or entries n (entry.Known I32) less ∙ ap Some top)) in
+    let same : entry.Run ≡ get_or entries n entry.Run = rw (c.if-not-is_run.ensures.0 refl) at c.index-entries-count.is in
     let is = sym (get_or_from_slice_get runs m run run (sym c.in-Some.ensures.value)) in
     let ends : drop k run.now ≡ c.args.types.now =
     sym (take_all (length run.now - k) (drop k run.now) (omega (arith, length-drop k run.now))) ∙ c.if-not-are_equal.ensures.0 refl in

@@ -1,11 +1,9 @@
 use Rattle.std.proofs.Common.{[], ◌∷◌}
-use Rattle.validator.proofs.Pops.{no_top, under_top}
+use Rattle.validator.proofs.Pops.{dropped_top}
 use Rattle.validator.proofs.operands.pop_two.Goals as goal
 
-pub returns-then-not-pop_fitting : goal.returns-then-not-pop_fitting
-returns-then-not-pop_fitting c = no_top c.args.frame.now _ (c.args.under ∷ []) c.args.top c.if-not-pop_fitting.ensures
+pub returns-then-drop_top_two : goal.returns-then-drop_top_two
+returns-then-drop_top_two c = dropped_top c.args.frame.now c.args.operands.now _ (c.args.under ∷ c.args.top ∷ []) c.if-drop_top_two.ensures.dropped
 
 pub returns : goal.returns
-returns c =
-    let (t, takes, fit) = c.if-not-pop_fitting.ensures in
-    under_top c.args.frame.now _ c.pop_one.result _ _ (c.args.under ∷ []) c.args.top t takes fit c.pop_one.ensures
+returns c = rw c.if-drop_top_two.ensures.kept at c.pop_any_two.ensures

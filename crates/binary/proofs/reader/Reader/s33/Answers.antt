@@ -11,4 +11,4 @@ returns-in_default-clause-gives c =
 pub returns-clause-gives : goal.returns-clause-gives
 returns-clause-gives c =
     let fits : FitsSigned w64 c.in-Some.value = search rules in
-    rw (← c.self.view_is, to_z-of_z) (read_some _ _ _ (signed_reader 33) c.in-Some.ensures.found)
+    rw (c.advance.ensures, ← c.self.view_is, to_z-of_z) (read_some _ _ _ (signed_reader 33) c.in-Some.ensures.found)

@@ -10,4 +10,4 @@ returns-in_default c = rw (← c.self.view_is) (read_none _ (signed_reader 64) c
 pub returns : goal.returns
 returns c =
     let fits : FitsSigned w64 c.in-Some.value = search rules in
-    rw (← c.self.view_is, to_z-of_z) (read_some _ _ _ (signed_reader 64) c.in-Some.ensures.found)
+    rw (c.advance.ensures, ← c.self.view_is, to_z-of_z) (read_some _ _ _ (signed_reader 64) c.in-Some.ensures.found)

@@ -13,7 +13,7 @@ invariant_of-self-in-Ok c =
     let types = c.args.types.now in
     let some : 0 < length types = grind (arith, nat_tests, c.is_empty.ensures, c.if-is_empty.false) in
     let few : inside.more + length types ≤ 2 ^ 62 = omega (arith, c.if-types-room.false, c.self.invariant.few) in
-    rw (c.in-Ok.ensures.items, c.in_ok-push.ensures.items, map-append) (entries_with_run types some few c.self.invariant)
+    rw (c.in-Ok.ensures.items, c.run.ensures, c.in_ok-push.ensures.items, map-append) (entries_with_run types some few c.self.invariant)
 
 pub returns-in-Ok : goal.returns-in-Ok
 returns-in-Ok c =
@@ -21,6 +21,6 @@ returns-in-Ok c =
     let types = c.args.types.now in
     let each = c.self.invariant.each in
     let whole : operands_in c.push-2.new.self.items (types_of c.push.new.self.items) ≡ c.args.self.now ++ known types =
-    rw (c.in-Ok.ensures.items, c.in_ok-push.ensures.items, map-append)
+    rw (c.in-Ok.ensures.items, c.run.ensures, c.in_ok-push.ensures.items, map-append)
     (run_more inside.entries.items (types_of inside.runs.items) types each ∙ ap (λ (z : List OperandType). z ++ known types) c.self.view_is) in
     whole
