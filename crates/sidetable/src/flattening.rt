@@ -6,14 +6,14 @@ ghost use Rattle.core_types.specs.declared.op.Op.TheVariants.{Block, Else, End, 
 ghost use Rattle.core_types.specs.declared.op.PlainOp.TheVariants as plain;
 ghost use Rattle.core_types.specs.declared.op.VariableOp.TheVariants.{LocalGet};
 ghost use Rattle.sidetable.specs.Completion.{ChangesEntries, with_targets};
-ghost use Rattle.sidetable.specs.Counts.{behind, height_or_zero};
+ghost use Rattle.sidetable.specs.Counts.{behind, block_counts, height_or_zero};
 ghost use Rattle.sidetable.specs.Flattening.{EndsAs, HasBegun, IsBegun, IsOpen, Passes, Pushes, Starts};
 ghost use Rattle.sidetable.specs.Labels.{IfSecond, second_targets, targets_of};
 ghost use Rattle.sidetable.specs.SideTables.{SideTables as SideTablesBefore};
 ghost use Rattle.sidetable.specs.Signatures.{signatures_of};
 
 use crate::copies::copy_all_labels;
-use crate::counts::{ModuleTypes, counts_of_block};
+use crate::counts::{Counts, ModuleTypes, counts_of_block};
 use crate::instructions::{
     PackedInstruction, pack, pack_control, pack_i32_const, pack_local_get, pack_memory,
     pack_numeric, pack_parametric, pack_variable,
@@ -77,16 +77,18 @@ fn push_pending(tables: &mut SideTables, kept: u32, height: u64) -> Result<u32, 
     })
 }
 
-// A block: a branch to its label goes on behind it, with its results.
-fn step_block(
+// Flattens the beginning of a block of this type, which has these counts. A branch to its label goes on behind it, with its results.
+#[inline(always)]
+fn begin_block(
     s: &ModuleTypes<'_>,
     outermost: u32,
     f: &mut Flattening,
     ty: BlockType,
+    c: Counts,
 ) -> Result<(), AllocError>
+    requires { c ≡ block_counts (signatures_of s.now) ty }
     ensures { OnOk result (Passes (signatures_of s.now) outermost f.old (Block ty) f.new) }
 {
-    let c = counts_of_block(s, ty);
     let inside = f.heights.here();
     let after = changed(c, inside)?;
     let label = push_pending(&mut f.tables, number(c.gives)?, base(c, inside))?;
@@ -100,16 +102,34 @@ fn step_block(
     Ok(())
 }
 
-// Flattens the beginning of a loop. A branch to its label restarts the loop, with its parameters.
-fn step_loop(
+// Flattens the beginning of a block. Most take and give nothing, which the compiler then knows.
+#[inline(never)]
+fn step_block(
     s: &ModuleTypes<'_>,
     outermost: u32,
     f: &mut Flattening,
     ty: BlockType,
 ) -> Result<(), AllocError>
+    ensures { OnOk result (Passes (signatures_of s.now) outermost f.old (Block ty) f.new) }
+{
+    match ty {
+        BlockType::Empty => begin_block(s, outermost, f, ty, Counts { takes: 0, gives: 0 }),
+        _ => begin_block(s, outermost, f, ty, counts_of_block(s, ty)),
+    }
+}
+
+// Flattens the beginning of a loop of this type, which has these counts. A branch to its label restarts it, with its parameters.
+#[inline(always)]
+fn begin_loop(
+    s: &ModuleTypes<'_>,
+    outermost: u32,
+    f: &mut Flattening,
+    ty: BlockType,
+    c: Counts,
+) -> Result<(), AllocError>
+    requires { c ≡ block_counts (signatures_of s.now) ty }
     ensures { OnOk result (Passes (signatures_of s.now) outermost f.old (Loop ty) f.new) }
 {
-    let c = counts_of_block(s, ty);
     let inside = f.heights.here();
     let after = changed(c, inside)?;
     let label = f.tables.push_entry(Entry {
@@ -127,7 +147,24 @@ fn step_loop(
     Ok(())
 }
 
+// Flattens the beginning of a loop. Most take and give nothing, which the compiler then knows.
+#[inline(never)]
+fn step_loop(
+    s: &ModuleTypes<'_>,
+    outermost: u32,
+    f: &mut Flattening,
+    ty: BlockType,
+) -> Result<(), AllocError>
+    ensures { OnOk result (Passes (signatures_of s.now) outermost f.old (Loop ty) f.new) }
+{
+    match ty {
+        BlockType::Empty => begin_loop(s, outermost, f, ty, Counts { takes: 0, gives: 0 }),
+        _ => begin_loop(s, outermost, f, ty, counts_of_block(s, ty)),
+    }
+}
+
 // An `if`: where the condition is zero it goes on with its second body, or behind it.
+#[inline(never)]
 fn step_if(
     s: &ModuleTypes<'_>,
     outermost: u32,
@@ -165,6 +202,7 @@ fn complete_second(tables: &mut SideTables, pending: Pending, place: u32)
 }
 
 // An else: the first body goes on behind the `if`, with its results. There is none where no body is open.
+#[inline(never)]
 fn step_else(s: &ModuleTypes<'_>, outermost: u32, f: &mut Flattening) -> Result<(), AllocError>
     requires { HasBegun outermost f.old }
     ensures { OnOk result (Passes (signatures_of s.now) outermost f.old Else f.new) }
@@ -200,6 +238,7 @@ fn complete_level(tables: &mut SideTables, level: Level, end: u32)
 }
 
 // An end, which leaves no operation. There is none where no body is open.
+#[inline(never)]
 fn step_end(s: &ModuleTypes<'_>, outermost: u32, f: &mut Flattening) -> Result<(), AllocError>
     requires { HasBegun outermost f.old }
     ensures { OnOk result (Passes (signatures_of s.now) outermost f.old End f.new) }
@@ -213,7 +252,7 @@ fn step_end(s: &ModuleTypes<'_>, outermost: u32, f: &mut Flattening) -> Result<(
 }
 
 /// Passes a mark, at which a body begins or ends.
-#[inline(never)]
+#[inline(always)]
 pub fn pass_mark(
     s: &ModuleTypes<'_>,
     outermost: u32,

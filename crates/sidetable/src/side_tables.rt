@@ -52,6 +52,7 @@ impl SideTables {
     }
 
     /// Pushes an entry and returns its number.
+    #[inline(always)]
     pub(crate) fn push_entry(&mut self, entry: Entry) -> Result<u32, AllocError>
         ensures entries { OnOk result (ChangesEntries self.old self.new
             (self.old.entries.items ++ entry ∷ [])) }

@@ -44,6 +44,15 @@ local.get_behind_the_last_local | (func (param i32) (local i64) local.get 2 drop
 local.get_of_the_last_local | (func (param i32) (local i64) local.get 1 drop) | valid
 local.get_of_the_second_group_for_i32.eqz | (func (local i32 i64) local.get 1 i32.eqz drop) | invalid
 local.get_of_the_second_group_for_i64.eqz | (func (local i32 i64) local.get 1 i64.eqz drop) | valid
+local.get_of_the_32nd_local_for_i32.eqz | (func (local i32 i32 i32 i32 i32 i32 i32 i32 i32 i32 i32 i32 i32 i32 i32 i32 i32 i32 i32 i32 i32 i32 i32 i32 i32 i32 i32 i32 i32 i32 i32 i32 i64) local.get 31 i32.eqz drop) | valid
+local.get_of_the_32nd_local_for_i64.eqz | (func (local i32 i32 i32 i32 i32 i32 i32 i32 i32 i32 i32 i32 i32 i32 i32 i32 i32 i32 i32 i32 i32 i32 i32 i32 i32 i32 i32 i32 i32 i32 i32 i32 i64) local.get 31 i64.eqz drop) | invalid
+local.get_of_the_33rd_local_for_i64.eqz | (func (local i32 i32 i32 i32 i32 i32 i32 i32 i32 i32 i32 i32 i32 i32 i32 i32 i32 i32 i32 i32 i32 i32 i32 i32 i32 i32 i32 i32 i32 i32 i32 i32 i64) local.get 32 i64.eqz drop) | valid
+local.get_of_the_33rd_local_for_i32.eqz | (func (local i32 i32 i32 i32 i32 i32 i32 i32 i32 i32 i32 i32 i32 i32 i32 i32 i32 i32 i32 i32 i32 i32 i32 i32 i32 i32 i32 i32 i32 i32 i32 i32 i64) local.get 32 i32.eqz drop) | invalid
+local.get_behind_33_locals | (func (local i32 i32 i32 i32 i32 i32 i32 i32 i32 i32 i32 i32 i32 i32 i32 i32 i32 i32 i32 i32 i32 i32 i32 i32 i32 i32 i32 i32 i32 i32 i32 i32 i64) local.get 33 drop) | invalid
+local.set_of_the_33rd_local | (func (local i32 i32 i32 i32 i32 i32 i32 i32 i32 i32 i32 i32 i32 i32 i32 i32 i32 i32 i32 i32 i32 i32 i32 i32 i32 i32 i32 i32 i32 i32 i32 i32 i64) i64.const 0 local.set 32) | valid
+local.set_of_the_33rd_local_to_an_i32 | (func (local i32 i32 i32 i32 i32 i32 i32 i32 i32 i32 i32 i32 i32 i32 i32 i32 i32 i32 i32 i32 i32 i32 i32 i32 i32 i32 i32 i32 i32 i32 i32 i32 i64) i32.const 0 local.set 32) | invalid
+local.tee_of_the_33rd_local | (func (local i32 i32 i32 i32 i32 i32 i32 i32 i32 i32 i32 i32 i32 i32 i32 i32 i32 i32 i32 i32 i32 i32 i32 i32 i32 i32 i32 i32 i32 i32 i32 i32 i64) i64.const 0 local.tee 32 i64.eqz drop) | valid
+local.tee_of_the_33rd_local_gives_no_i32 | (func (local i32 i32 i32 i32 i32 i32 i32 i32 i32 i32 i32 i32 i32 i32 i32 i32 i32 i32 i32 i32 i32 i32 i32 i32 i32 i32 i32 i32 i32 i32 i32 i32 i64) i64.const 0 local.tee 32 i32.eqz drop) | invalid
 externref_local_set_to_a_function | (func (local externref) ref.null func local.set 0) | invalid
 funcref_local_set_to_a_function | (func (local funcref) ref.null func local.set 0) | valid
 global.get_of_a_missing_global | (func global.get 0 drop) | invalid
@@ -85,5 +94,5 @@ ref.func_of_a_function_named_by_an_active_segment | (func ref.func 0 drop) (tabl
 
 #[test]
 fn checks_reference_parametric_and_variable_instructions(rt: HostRuntime) {
-    check_rows(&rt, rt.alloc(), ROWS, 79);
+    check_rows(&rt, rt.alloc(), ROWS, 88);
 }

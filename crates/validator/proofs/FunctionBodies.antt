@@ -25,8 +25,8 @@ outside m ty locals = record (module_context m) { locals = ty.params ++ locals; 
 
 module _ (m : Module) (s : IndexSpaces) (spaces : AreIndexSpaces m s) {marks : List Bool} (has_marks : HasMarks m marks) (f : Func) (ty : FuncType) (lent : BodyContext)
     (types_are : lent.types.now ≡ m.types) (elements_are : lent.elements.now ≡ m.elements) (datas_are : lent.datas ≡ length m.datas)
-    (spaces_is : lent.spaces.now ≡ s) (declared_are : lent.declared.now ≡ marks) (params_are : lent.params.now ≡ ty.params)
-    (locals_are : lent.locals.now ≡ f.locals) (results_are : lent.results.now ≡ ty.results) where
+    (spaces_is : lent.spaces.now ≡ s) (declared_are : lent.declared.now ≡ marks) (locals_are : lent.locals ≡ ty.params ++ f.locals)
+    (results_are : lent.results.now ≡ ty.results) where
   describes : Describes lent (outside m ty f.locals)
   describes = record {
     types = rw types_are refl;
@@ -36,7 +36,7 @@ module _ (m : Module) (s : IndexSpaces) (spaces : AreIndexSpaces m s) {marks : L
     globals = rw (spaces_is, spaces.globals) refl;
     elements = rw elements_are refl;
     datas = rw datas_are refl;
-    locals = rw (params_are, locals_are) refl;
+    locals = sym locals_are;
     labels = refl;
     results = rw results_are refl;
     references = λ x set. has_marks.named x (rw declared_are at set);

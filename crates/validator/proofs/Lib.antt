@@ -3,6 +3,7 @@ pub mod Expressions
 pub mod FunctionBodies
 pub mod Labels
 pub mod ListLoops
+pub mod LocalTypes
 pub mod OperandEntries
 pub mod OperandStack
 pub mod Pops

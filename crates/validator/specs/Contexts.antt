@@ -1,5 +1,5 @@
 -- What the context of the code lends, and the contexts that it describes.
-use Rattle.std.specs.Prelude.{List, Option, Some, [], map, option_map, slice_get, true, ℕ, ◌++◌, ◌≡◌}
+use Rattle.std.specs.Prelude.{List, Option, Some, [], map, option_map, slice_get, true, ℕ, ◌≡◌}
 use Rattle.core_types.specs.declared.module.ElementSegment.{ElementSegment}
 use Rattle.core_types.specs.declared.types.FuncType.{FuncType}
 use Rattle.core_types.specs.declared.types.ValType.{ValType}
@@ -14,10 +14,6 @@ use Rattle.core_types.specs.declared.types.TableType.{TableType}
 -- The types of the functions, imports first.
 abbrev pub function_types : BodyContext → List FuncType
 function_types lent = map (type_at lent.types.now) lent.spaces.now.functions.items
-
--- The types of the locals, parameters first.
-abbrev pub local_types : BodyContext → List ValType
-local_types lent = lent.params.now ++ lent.locals.now
 
 -- The element type of a table, and of an element segment, by its index.
 abbrev pub table_element_at : BodyContext → ℕ → Option RefType
@@ -41,7 +37,7 @@ pub record Describes (lent : BodyContext) (context : Context) : Type 0 where
   pub globals : context.globals ≡ lent.spaces.now.globals.items
   pub elements : context.elements ≡ map (λ (e : ElementSegment). e.ty) lent.elements.now
   pub datas : context.datas ≡ lent.datas
-  pub locals : context.locals ≡ local_types lent
+  pub locals : context.locals ≡ lent.locals
   pub labels : context.labels ≡ []
   pub results : context.results ≡ Some lent.results.now
   pub references : (x : ℕ) → IsMarked lent x → IsNamed x context.references

@@ -4,6 +4,7 @@ pub mod Contexts
 pub mod ControlFrames
 pub mod Errors
 pub mod InstructionTypes
+pub mod LocalTypes
 pub mod ModuleParts
 pub mod Modules
 pub mod OperandStack

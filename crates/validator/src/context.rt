@@ -1,15 +1,16 @@
 pub mod references;
 
 ghost use Rattle.std.specs.Prelude.{IsTrue, option_map, slice_get, ◌<◌, ◌↔◌, ◌≡◌};
-ghost use Rattle.validator.specs.Contexts.{IsMarked, function_types, local_types, segment_type_at, table_element_at};
+ghost use Rattle.validator.specs.Contexts.{IsMarked, function_types, segment_type_at, table_element_at};
 ghost use Rattle.validator.specs.InstructionTypes.{lent_func_type};
 
+use crate::local_types::LocalTypes;
 use crate::types::{LentFuncType, lend};
-use core_types::{ElementSegment, FuncType, GlobalType, Limits, Locals, RefType, ValType, item};
+use core_types::{ElementSegment, FuncType, GlobalType, Limits, RefType, ValType, item};
 use index_spaces::IndexSpaces;
 
 /// What the body of a function is typed in (Validation, Conventions, Contexts).
-#[derive(Clone, Copy)]
+#[derive(Drop)]
 pub struct BodyContext<'a> {
     pub types: &'a [FuncType],
     /// The element segments, for their types.
@@ -19,20 +20,16 @@ pub struct BodyContext<'a> {
     pub spaces: &'a IndexSpaces,
     /// For each function, whether `ref.func` may name it.
     pub declared: &'a [bool],
-    pub params: &'a [ValType],
-    pub locals: &'a Locals,
+    /// The types of the locals, parameters first.
+    pub locals: LocalTypes<'a>,
     pub results: &'a [ValType],
 }
 
-// Returns the type of a local. The parameters come first.
 #[inline(always)]
 pub fn local_type(context: &BodyContext<'_>, index: u32) -> Option<ValType>
-    ensures { result ≡ slice_get (local_types context.now) index }
+    ensures { result ≡ slice_get context.now.locals index }
 {
-    match context.params.get(index as usize) {
-        Some(ty) => Some(*ty),
-        None => context.locals.get(index - context.params.len() as u32),
-    }
+    context.locals.get(index)
 }
 
 pub fn global_type(context: &BodyContext<'_>, index: u32) -> Option<GlobalType>

@@ -164,7 +164,7 @@ pub fn apply_some<'a>(
 }
 
 // Steps over a mark, at which a body begins or ends.
-#[inline(never)]
+#[inline(always)]
 pub fn step_mark<'a>(
     context: &BodyContext<'a>,
     stacks: &mut Stacks<'a>,

@@ -36,22 +36,6 @@ fn read_type(context: &BodyContext<'_>, index: u32) -> Option<ValType>
     local_type(context, index)
 }
 
-// Steps over a `local.get`.
-#[inline(always)]
-pub fn step_local_get(
-    context: &BodyContext<'_>,
-    stacks: &mut Stacks<'_>,
-    index: u32,
-) -> Result<(), Fault>
-    ensures { Steps context.now stacks.old stacks.new
-        (flat.Plain (plain.Variable (variable_op.LocalGet index))) result }
-{
-    let Some(ty) = read_type(context, index) else {
-        return Err(Fault::Invalid);
-    };
-    apply_nullary(stacks, ty)
-}
-
 // Returns the type of the operand that `local.set` takes, if the local exists.
 #[inline(always)]
 fn set_type(context: &BodyContext<'_>, index: u32) -> Option<ValType>
@@ -61,22 +45,6 @@ fn set_type(context: &BodyContext<'_>, index: u32) -> Option<ValType>
         (plain.Variable (variable_op.LocalSet index))) }
 {
     local_type(context, index)
-}
-
-// Steps over a `local.set`.
-#[inline(always)]
-fn step_local_set(
-    context: &BodyContext<'_>,
-    stacks: &mut Stacks<'_>,
-    index: u32,
-) -> Result<(), Fault>
-    ensures { Steps context.now stacks.old stacks.new
-        (flat.Plain (plain.Variable (variable_op.LocalSet index))) result }
-{
-    let Some(ty) = set_type(context, index) else {
-        return Err(Fault::Invalid);
-    };
-    apply_taking_one(stacks, ty)
 }
 
 // Returns the type of the operand that `local.tee` takes and gives, if the local exists.
@@ -90,24 +58,7 @@ fn tee_type(context: &BodyContext<'_>, index: u32) -> Option<ValType>
     local_type(context, index)
 }
 
-// Steps over a `local.tee`.
-#[inline(always)]
-fn step_local_tee(
-    context: &BodyContext<'_>,
-    stacks: &mut Stacks<'_>,
-    index: u32,
-) -> Result<(), Fault>
-    ensures { Steps context.now stacks.old stacks.new
-        (flat.Plain (plain.Variable (variable_op.LocalTee index))) result }
-{
-    let Some(ty) = tee_type(context, index) else {
-        return Err(Fault::Invalid);
-    };
-    apply_unary(stacks, ty, ty)
-}
-
 // Returns the type of an instruction on a local or a global.
-#[inline(always)]
 fn type_of_variable(context: &BodyContext<'_>, op: VariableOp) -> Option<InstructionType<'static>>
     ensures { HasTypeOf context.now (plain.Variable op) result }
 {
@@ -132,6 +83,75 @@ fn type_of_variable(context: &BodyContext<'_>, op: VariableOp) -> Option<Instruc
     }
 }
 
+// Steps over an instruction on a local or a global, whichever it is.
+#[inline(never)]
+fn step_any_variable(
+    context: &BodyContext<'_>,
+    stacks: &mut Stacks<'_>,
+    op: VariableOp,
+) -> Result<(), Fault>
+    ensures { Steps context.now stacks.old stacks.new (flat.Plain (plain.Variable op)) result }
+{
+    apply_some(stacks, &type_of_variable(context, op))
+}
+
+// Steps over a `local.get`.
+#[inline(always)]
+pub fn step_local_get(
+    context: &BodyContext<'_>,
+    stacks: &mut Stacks<'_>,
+    index: u32,
+) -> Result<(), Fault>
+    ensures { Steps context.now stacks.old stacks.new
+        (flat.Plain (plain.Variable (variable_op.LocalGet index))) result }
+{
+    if !context.locals.is_first(index) {
+        return step_any_variable(context, stacks, VariableOp::LocalGet(index));
+    }
+    let Some(ty) = read_type(context, index) else {
+        return Err(Fault::Invalid);
+    };
+    apply_nullary(stacks, ty)
+}
+
+// Steps over a `local.set`.
+#[inline(always)]
+fn step_local_set(
+    context: &BodyContext<'_>,
+    stacks: &mut Stacks<'_>,
+    index: u32,
+) -> Result<(), Fault>
+    ensures { Steps context.now stacks.old stacks.new
+        (flat.Plain (plain.Variable (variable_op.LocalSet index))) result }
+{
+    if !context.locals.is_first(index) {
+        return step_any_variable(context, stacks, VariableOp::LocalSet(index));
+    }
+    let Some(ty) = set_type(context, index) else {
+        return Err(Fault::Invalid);
+    };
+    apply_taking_one(stacks, ty)
+}
+
+// Steps over a `local.tee`.
+#[inline(always)]
+fn step_local_tee(
+    context: &BodyContext<'_>,
+    stacks: &mut Stacks<'_>,
+    index: u32,
+) -> Result<(), Fault>
+    ensures { Steps context.now stacks.old stacks.new
+        (flat.Plain (plain.Variable (variable_op.LocalTee index))) result }
+{
+    if !context.locals.is_first(index) {
+        return step_any_variable(context, stacks, VariableOp::LocalTee(index));
+    }
+    let Some(ty) = tee_type(context, index) else {
+        return Err(Fault::Invalid);
+    };
+    apply_unary(stacks, ty, ty)
+}
+
 // Steps over an instruction on a local or a global.
 #[inline(always)]
 pub fn step_variable(
@@ -145,6 +165,6 @@ pub fn step_variable(
         VariableOp::LocalGet(index) => step_local_get(context, stacks, index),
         VariableOp::LocalSet(index) => step_local_set(context, stacks, index),
         VariableOp::LocalTee(index) => step_local_tee(context, stacks, index),
-        _ => apply_some(stacks, &type_of_variable(context, op)),
+        _ => step_any_variable(context, stacks, op),
     }
 }

@@ -55,13 +55,13 @@ returns-then-not-is_empty-clause-untyped g c =
     let more : 0 < length c.loop-next.stacks.outer.items = search (rules, c.loop-next.stacks.outer.ok.0) in
     λ invalid. still_open c.args.context.now c.args.body.now c.loop-next.stacks (goes [] (all.0 ∙ sym (append-nil read))) more
 
-pub returns-in_err-finish-clause-untyped : goal.returns-in_err-finish-clause-untyped
-returns-in_err-finish-clause-untyped g c =
+pub returns-in_err-finish_body-clause-untyped : goal.returns-in_err-finish_body-clause-untyped
+returns-in_err-finish_body-clause-untyped g c =
     let (read, reads, typed, goes, ready, on, code, none) = c.loop-next.invariant in
     let all = reads_all reads (none c.in_default.is) in
-    let passed = err_from_is_err_and c.from_residual-in_err-finish.result c.from_residual-in_err-finish.ensures.1 in
+    let passed = err_from_is_err_and c.from_residual-in_err-finish_body.result c.from_residual-in_err-finish_body.ensures.1 in
     rw passed.1
-    (λ invalid. never_whole c.args.context.now c.args.body.now c.loop-next.stacks (goes [] (all.0 ∙ sym (append-nil read))) (c.in_err-finish.ensures.operands.1 (sym passed.2 ∙ invalid)))
+    (λ invalid. never_whole c.args.context.now c.args.body.now c.loop-next.stacks (goes [] (all.0 ∙ sym (append-nil read))) (c.in_err-finish_body.ensures.operands.1 (sym passed.2 ∙ invalid)))
 
 pub returns-clause-typed : goal.returns-clause-typed
 returns-clause-typed g c =
@@ -69,7 +69,7 @@ returns-clause-typed g c =
     let all = reads_all reads (none c.in_default.is) in
     let alone : length c.loop-next.stacks.outer.items ≡ 0 = search (rules, c.loop-next.stacks.outer.ok.0) in
     all_read c.args.context.now c.loop-next.stacks _ c.args.body.now (subst (λ (z : List Op). IsReadTyped c.args.context.now c.loop-next.stacks z) (sym all.0) typed)
-    (nil_from_length c.loop-next.stacks.outer.items alone) c.in_ok-finish.ensures.operands.0
+    (nil_from_length c.loop-next.stacks.outer.items alone) c.in_ok-finish_body.ensures.operands.0
 
 pub returns-clause-ready : goal.returns-clause-ready
 returns-clause-ready g c =

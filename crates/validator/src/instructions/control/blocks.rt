@@ -11,7 +11,7 @@ use crate::errors::Fault;
 use crate::instructions::pop_operands;
 use crate::operands::pop_types;
 use crate::types::{InstructionType, are_equal, type_of_block};
-use core_types::BlockType;
+use core_types::{BlockType, append};
 use std::alloc::AllocError;
 use std::mem;
 
@@ -19,8 +19,7 @@ use std::mem;
 fn enter<'a>(stacks: &mut Stacks<'a>, frame: &ControlFrame<'a>) -> Result<(), AllocError>
     ensures { OnOk result (PushesFrame stacks.old frame.now stacks.new) }
 {
-    let around = stacks.innermost;
-    stacks.outer.push(around)?;
+    append(&mut stacks.outer, stacks.innermost)?;
     stacks.innermost = *frame;
     stacks.operands.push_types(frame.start_types)
 }
@@ -71,7 +70,8 @@ pub fn step_begin<'a>(
 }
 
 // Pops the results of the innermost frame, which leaves none of its operands.
-pub fn finish(stacks: &mut Stacks<'_>) -> Result<(), Fault>
+#[inline(always)]
+fn finish(stacks: &mut Stacks<'_>) -> Result<(), Fault>
     ensures frames { SameFrames stacks.old stacks.new }
     ensures operands { Finishes stacks.old stacks.new.operands result }
 {
@@ -86,6 +86,15 @@ pub fn finish(stacks: &mut Stacks<'_>) -> Result<(), Fault>
         return Err(Fault::Invalid);
     }
     Ok(())
+}
+
+// Pops the results of a function, which leaves none of its operands.
+#[inline(never)]
+pub fn finish_body(stacks: &mut Stacks<'_>) -> Result<(), Fault>
+    ensures frames { SameFrames stacks.old stacks.new }
+    ensures operands { Finishes stacks.old stacks.new.operands result }
+{
+    finish(stacks)
 }
 
 // Steps over the beginning of the second body of an if.

@@ -1,14 +1,16 @@
 ghost use Rattle.std.specs.Bool.{OnFalse, OnTrue};
-ghost use Rattle.std.specs.Prelude.{All};
+ghost use Rattle.std.specs.Prelude.{All, [], ◌++◌, ◌∷◌};
 ghost use Rattle.core_types.specs.declared.op.ControlOp.TheVariants as control;
 ghost use Rattle.core_types.specs.declared.op.PlainOp.TheVariants as plain;
+ghost use Rattle.core_types.specs.declared.types.ValType.TheVariants.{I32};
 ghost use Rattle.meaning.specs.validation.Instructions.{known};
+ghost use Rattle.meaning.specs.validation.Types.{function_type as type_of};
 ghost use Rattle.validator.specs.ControlFrames.{FitsLabelAt};
-ghost use Rattle.validator.specs.Steps.{StepsOver};
+ghost use Rattle.validator.specs.Steps.{StepsByType, StepsOver};
 
 use crate::control_frames::{ControlFrame, Stacks, find_label, set_unreachable};
 use crate::errors::Fault;
-use crate::instructions::apply;
+use crate::instructions::{apply, apply_taking_one};
 use crate::operands::{all_fit, pop_fitting, pop_types, take_operands};
 use crate::types::{are_equal, takes_i32_gives};
 use core_types::{BranchTable, OperandType, ValType};
@@ -27,13 +29,33 @@ pub fn step_br(stacks: &mut Stacks<'_>, index: u32) -> Result<(), Fault>
     Ok(())
 }
 
+// Steps over an instruction that takes an i32 above operands of these types, and gives those back.
+#[inline(never)]
+fn apply_above_any<'a>(stacks: &mut Stacks<'a>, types: &'a [ValType]) -> Result<(), Fault>
+    ensures { StepsByType stacks.old stacks.new (type_of (types.now ++ I32 ∷ []) types.now) result }
+{
+    apply(stacks, &takes_i32_gives(types, types))
+}
+
+// Like `apply_above_any`. Mostly, there are no operands under the i32.
+#[inline(always)]
+fn apply_above<'a>(stacks: &mut Stacks<'a>, types: &'a [ValType]) -> Result<(), Fault>
+    ensures { StepsByType stacks.old stacks.new (type_of (types.now ++ I32 ∷ []) types.now) result }
+{
+    if types.is_empty() {
+        return apply_taking_one(stacks, ValType::I32);
+    }
+    apply_above_any(stacks, types)
+}
+
+#[inline(never)]
 pub fn step_br_if(stacks: &mut Stacks<'_>, index: u32) -> Result<(), Fault>
     ensures { StepsOver stacks.old stacks.new (plain.Control (control.BrIf index)) result }
 {
     let Some(types) = find_label(&stacks.innermost, &stacks.outer, index) else {
         return Err(Fault::Invalid);
     };
-    apply(stacks, &takes_i32_gives(types, types))
+    apply_above(stacks, types)
 }
 
 // Returns whether operands can be carried to each of the labels. A label equal to the previous one is not checked again.

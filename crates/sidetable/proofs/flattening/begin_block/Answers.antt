@@ -6,12 +6,12 @@ use Rattle.sidetable.specs.declared.counts.Counts.{Counts}
 use Rattle.sidetable.specs.declared.operations.Entry.{Entry}
 use Rattle.sidetable.proofs.Beginning.{block-passes, entry-same}
 use Rattle.sidetable.proofs.Marks.{begins-so}
-use Rattle.sidetable.proofs.flattening.step_block.Goals as goal
+use Rattle.sidetable.proofs.flattening.begin_block.Goals as goal
 
 pub returns : goal.returns
 returns c =
     let f = c.args.f.now in
-    let counted = c.counts_of_block-c.ensures in
+    let counted = c.requires in
     let here = c.here-inside.ensures in
     let entry = entry-same 0 0 c.in_ok-number.field-0 (block_counts (signatures_of c.args.s.now) c.args.ty).gives c.base.result
     (height_or_zero f.heights.here - (block_counts (signatures_of c.args.s.now) c.args.ty).takes) refl (c.in_ok-number.ensures ∙ ap (λ (x : Counts). x.gives) counted)

@@ -6,12 +6,12 @@ use Rattle.sidetable.specs.declared.counts.Counts.{Counts}
 use Rattle.sidetable.specs.declared.operations.Entry.{Entry}
 use Rattle.sidetable.proofs.Beginning.{entry-same, loop-passes}
 use Rattle.sidetable.proofs.Marks.{begins-so}
-use Rattle.sidetable.proofs.flattening.step_loop.Goals as goal
+use Rattle.sidetable.proofs.flattening.begin_loop.Goals as goal
 
 pub returns : goal.returns
 returns c =
     let f = c.args.f.now in
-    let counted = c.counts_of_block-c.ensures in
+    let counted = c.requires in
     let start : c.in_ok-number.field-0 ≡ length f.operations.items = omega (arith, c.in_ok-number.ensures, c.len.ensures) in
     let here = c.here-inside.ensures in
     let entry = entry-same c.in_ok-number.field-0 (length f.operations.items) c.in_ok-number-2.field-0 (block_counts (signatures_of c.args.s.now) c.args.ty).takes c.base.result
